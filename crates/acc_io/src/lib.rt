@@ -1,0 +1,17 @@
+//! Where bytes come from and go to: sources, sinks and shelves of files.
+//!
+//! Each object counts its faults. A call fails only where that count rose, so a caller that reports a fault
+//! without one is refused. Where an object tells its bytes, contracts say which bytes a call moves.
+#![tactic(auto)]
+
+pub mod failed;
+pub mod shelf;
+pub mod sink;
+pub mod source;
+pub mod streams;
+
+pub use failed::Failed;
+pub use shelf::Shelf;
+pub use sink::Sink;
+pub use source::Source;
+pub use streams::Streams;

@@ -1,0 +1,6 @@
+/// The three streams of a run, held by value. The calls that take them hand the same three back.
+pub struct Streams<I, O, E> {
+    pub input: I,
+    pub out: O,
+    pub err: E,
+}
