@@ -1,0 +1,6 @@
+//! The commands of `acc`, and the top call `acc_main`.
+#![tactic(auto)]
+
+pub mod program;
+pub mod reading;
+pub mod words;
