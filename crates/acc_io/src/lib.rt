@@ -9,9 +9,11 @@ pub mod shelf;
 pub mod sink;
 pub mod source;
 pub mod streams;
+pub mod writing;
 
 pub use failed::Failed;
 pub use shelf::Shelf;
 pub use sink::Sink;
 pub use source::Source;
 pub use streams::Streams;
+pub use writing::write_all;
