@@ -1,3 +1,5 @@
 pub mod Cause
 pub mod Bytes
 pub mod Held
+pub mod Plan
+pub mod Views

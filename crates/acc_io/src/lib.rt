@@ -4,14 +4,22 @@
 //! without one is refused. Where an object tells its bytes, contracts say which bytes a call moves.
 #![tactic(auto)]
 
+mod call_plan;
 pub mod failed;
+pub mod mem_sink;
+pub mod mem_source;
+mod pieces;
 pub mod shelf;
 pub mod sink;
 pub mod source;
 pub mod streams;
+pub mod writing;
 
 pub use failed::Failed;
+pub use mem_sink::MemSink;
+pub use mem_source::MemSource;
 pub use shelf::Shelf;
 pub use sink::Sink;
 pub use source::Source;
 pub use streams::Streams;
+pub use writing::write_all;

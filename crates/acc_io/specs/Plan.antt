@@ -1,0 +1,29 @@
+-- Which calls on an object in memory fail.
+use Rattle.std.specs.Prelude.{ℕ, ◌+◌, ◌-◌, ◌^◌, min, List, Contains}
+
+-- failing: the numbers, from 1, of the calls that fail and move nothing
+-- calls, faults: how many calls and faults there were; each stays at the last value of 64 bits
+pub record Plan : Type 0 where
+  pub failing : List ℕ
+  pub calls : ℕ
+  pub faults : ℕ
+
+-- before the first call
+abbrev pub planned : List ℕ → Plan
+planned failing = record { failing = failing; calls = 0; faults = 0 }
+
+-- one more, but a count stays at the last value of 64 bits
+abbrev pub counted : ℕ → ℕ
+counted n = min (n + 1) (2 ^ 64 - 1)
+
+-- after one more call
+abbrev pub called : Plan → Plan
+called plan = record plan { calls = counted plan.calls }
+
+-- after one more fault
+abbrev pub faulted : Plan → Plan
+faulted plan = record plan { faults = counted plan.faults }
+
+-- The next call is one of those that fail.
+abbrev pub FailsNext : Plan → Type 0
+FailsNext plan = Contains plan.failing (plan.calls + 1)

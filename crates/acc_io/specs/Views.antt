@@ -1,0 +1,24 @@
+-- What contracts see of a source, a sink and a shelf in memory.
+use Rattle.std.specs.Prelude.{ℕ, List, Bool}
+use Rattle.acc_io.specs.Plan.{Plan}
+use Rattle.acc_io.specs.Held.{Held}
+
+-- left: the bytes that were not read yet; piece: how many bytes one call moves at most
+pub record SourceView : Type 0 where
+  pub left : List ℕ
+  pub piece : ℕ
+  pub plan : Plan
+
+-- written: the bytes that were written; room: how many it holds at most
+pub record SinkView : Type 0 where
+  pub written : List ℕ
+  pub room : ℕ
+  pub piece : ℕ
+  pub plan : Plan
+
+-- held: the files, and what is left of the selected one
+pub record ShelfView : Type 0 where
+  pub held : Held
+  pub selected : Bool
+  pub piece : ℕ
+  pub plan : Plan

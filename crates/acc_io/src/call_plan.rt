@@ -1,0 +1,77 @@
+ghost use Rattle.std.specs.Prelude.{◌≡◌, ◌≤◌, ◌↔◌, ◌+◌, Contains, MatchResult, IsErr, IsTrue};
+ghost use Rattle.acc_io.specs.Cause.{HasCause, Rose};
+ghost use Rattle.acc_io.specs.Plan.{FailsNext, planned, called, faulted};
+
+use crate::failed::Failed;
+use std::marker::Model;
+
+/// Which calls on an object fail, and how many calls and faults there were.
+#[derive(Drop)]
+pub(crate) struct CallPlan {
+    failing: Vec<u64>,
+    calls: u64,
+    faults: u64,
+}
+
+impl Model for CallPlan {
+    ghost use Rattle.acc_io.specs.Plan.{Plan};
+
+    ghost Value = { Plan };
+
+    ghost view = { λ plan. record { failing = plan.failing.items; calls = plan.calls; faults = plan.faults } };
+}
+
+impl CallPlan {
+    pub(crate) fn new(failing: Vec<u64>) -> CallPlan
+        ensures { result ≡ planned failing.items }
+    {
+        CallPlan {
+            failing,
+            calls: 0,
+            faults: 0,
+        }
+    }
+
+    /// Counts a call, which fails where its number is in the list.
+    pub(crate) fn call(&mut self) -> Result<(), Failed>
+        ensures fails { IsErr result ↔ FailsNext self.old }
+        ensures plan { MatchResult result
+            (λ _. self.new ≡ called self.old)
+            (λ _. self.new ≡ faulted (called self.old)) }
+        ensures cause { HasCause self.old.faults self.new.faults result }
+    {
+        if self.next_fails() {
+            return Err(self.fault());
+        }
+        Ok(())
+    }
+
+    /// Counts a fault.
+    pub(crate) fn fault(&mut self) -> Failed
+        ensures plan { self.new ≡ faulted self.old }
+        ensures never_falls { self.old.faults ≤ self.new.faults }
+        ensures rose { Rose self.old.faults self.new.faults }
+    {
+        self.faults = self.faults.saturating_add(1);
+        Failed
+    }
+
+    fn next_fails(&mut self) -> bool
+        ensures fails { IsTrue result ↔ FailsNext self.old }
+        ensures plan { self.new ≡ called self.old }
+    {
+        let fails = lists_next(&self.failing, self.calls);
+        self.calls = self.calls.saturating_add(1);
+        fails
+    }
+}
+
+// Whether the next call is in the list. A number past the last value of 64 bits can't be.
+fn lists_next(failing: &[u64], calls: u64) -> bool
+    ensures { IsTrue result ↔ Contains failing.now (calls + 1) }
+{
+    match calls.checked_add(1) {
+        Some(number) => failing.contains(&number),
+        None => false,
+    }
+}
