@@ -1,17 +1,22 @@
 //! Reads a unit of the one form that is run.
 
-ghost use Rattle.std.specs.Prelude.{◌≡◌, ℕ, ◌+◌, ◌<◌, ◌≤◌, List, [], ◌∷◌, ◌++◌, length, take, drop, All, IfOk, IfSome, IfNone, codes, true};
+ghost use Rattle.std.specs.Prelude.{◌≡◌, ℕ, ◌+◌, ◌<◌, ◌≤◌, List, [], ◌∷◌, ◌++◌, length, take, drop, All, IfOk, IfSome, IfNone, codes, true, IsTrue, ◌↔◌};
 ghost use Rattle.std.specs.List.{flat_map};
 ghost use Rattle.std.specs.Str.{all_ascii_digits};
 ghost use Rattle.std.specs.Fmt.{decimal};
-ghost use Rattle.acc_run.specs.Program.{greatest_constant, putchar_call, plus_term};
+ghost use Rattle.acc_run.specs.Program.{Form, IsUnit, greatest_constant, putchar_call, plus_term};
+ghost use Rattle.acc_run.specs.Parts.{form_of};
 ghost use Rattle.acc_run.specs.Reading.{EndsNumeral, EndsCalls, EndsSum};
 
+use crate::program::Program;
 use std::alloc::{AllocError, Global};
 use std::str;
 
 /// The greatest constant of type `int`.
 const GREATEST_CONSTANT: u32 = 2147483647;
+
+/// The longest unit, in bytes.
+pub const LONGEST_UNIT: usize = 4096;
 
 /// How many digits stand at the front.
 #[tactic(auto, using(crate::proofs::Fronts::all_digits_more, crate::proofs::Fronts::ends_at))]
@@ -118,4 +123,40 @@ fn summands(alloc: Global, bytes: &[u8]) -> Result<(Vec<u32>, &[u8]), AllocError
         rest = after;
     }
     Ok((summands, rest))
+}
+
+/// These bytes end a unit.
+fn is_end(bytes: &[u8]) -> bool
+    ensures { IsTrue result ↔ (bytes.now ≡ codes ";}") }
+{
+    bytes == b";}".as_slice()
+}
+
+/// The program that these bytes spell, if they spell one.
+pub fn program_of(alloc: Global, bytes: &[u8]) -> Result<Option<Program>, AllocError>
+    ensures found { IfOk result (λ program. IfSome program (λ p. IsUnit (form_of p) bytes.now)) }
+    ensures none { IfOk result (λ program. IfNone program ((form : Form) → IsUnit form bytes.now → ⊥)) }
+{
+    if bytes.len() > LONGEST_UNIT {
+        return Ok(None);
+    }
+    let Some(rest) = strip(bytes, b"int main(void){") else {
+        return Ok(None);
+    };
+    let (outputs, rest) = putchar_arguments(alloc, rest)?;
+    let Some(rest) = strip(rest, b"return ") else {
+        return Ok(None);
+    };
+    let Some((first, rest)) = constant(rest) else {
+        return Ok(None);
+    };
+    let (summands, rest) = summands(alloc, rest)?;
+    if !is_end(rest) {
+        return Ok(None);
+    }
+    Ok(Some(Program {
+        outputs,
+        first,
+        rest: summands,
+    }))
 }
