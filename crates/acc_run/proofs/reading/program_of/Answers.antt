@@ -1,5 +1,6 @@
 -- Each refusal: the parts that were read are those of any unit that the bytes would spell.
 use Rattle.std.proofs.Common.{◌≡◌, List, ℕ, codes, sym, ◌∙◌, refl}
+use Rattle.std.proofs.lemmas.Bool.{false≢true}
 use Rattle.std.proofs.lemmas.List.{append_cancel_left}
 use Rattle.acc_run.proofs.Whole.{has_head, behind_calls, behind_first, behind_terms, term_ends, assembled, sum_text, terms_text}
 use Rattle.acc_run.proofs.reading.program_of.Goals as goal
@@ -28,10 +29,10 @@ returns-then-not-is_end-clause-none c form unit =
       c.in-Some-constant.ensures.found.0 c.in-Some-constant.ensures.found.1 c.in-Some-constant.ensures.found.2 in
     let terms = behind_terms form c.args.bytes.now unit c.in-Some-constant.rest.now c.in_ok-summands.rest.now c.in_ok-summands.summands.items first.1
       c.in_ok-summands.ensures.spelled c.in_ok-summands.ensures.fit c.in_ok-summands.ensures.all.0 c.in_ok-summands.ensures.all.1 in
-    c.if-not-is_end.ensures.1 terms.1
+    false≢true (c.if-not-is_end.ensures.1 terms.1)
 
 pub returns-clause-found : goal.returns-clause-found
 returns-clause-found c =
     assembled _ c.args.bytes.now c.in-Some.rest.now c.in_ok-outputs.rest.now c.in-Some-strip.rest.now c.in-Some-constant.rest.now c.in_ok-summands.rest.now
-      c.in-Some.ensures.found c.in_ok-outputs.ensures.spelled c.in-Some-strip.ensures.found c.in-Some-constant.ensures.found.0 c.in_ok-summands.ensures.spelled (c.if-not-is_end.ensures.0 tt)
+      c.in-Some.ensures.found c.in_ok-outputs.ensures.spelled c.in-Some-strip.ensures.found c.in-Some-constant.ensures.found.0 c.in_ok-summands.ensures.spelled (c.if-not-is_end.ensures.0 refl)
       c.if-bytes-gt-LONGEST_UNIT.false c.in_ok-outputs.ensures.fit c.in-Some-constant.ensures.found.1 c.in_ok-summands.ensures.fit
