@@ -1,5 +1,9 @@
 -- The table of cases and codes as it is printed.
-use Rattle.std.specs.Prelude.{ℕ, List, [], ◌∷◌, codes}
+use Rattle.std.specs.Prelude.{ℕ, List, [], ◌∷◌, ◌++◌, codes}
+use Rattle.std.specs.Fmt.{decimal}
+use Rattle.critical_table.specs.declared.case.Case.{Case}
+use Rattle.critical_table.specs.declared.code.Code.{Code}
+use Rattle.critical_table.specs.Texts.{case_row, code_row}
 
 -- the 24 lines: the critical cases of L.3p2 in its order, then the codes
 unfoldable pub table_lines : List (List ℕ)
@@ -29,3 +33,13 @@ table_lines =
     ∷ codes "U11 overlapping copy\n"
     ∷ codes "U12 invalid truth value read\n"
     ∷ []
+
+-- the line of a case
+unfoldable pub case_line : Case → List ℕ
+case_line case =
+    codes "L.3 " ++ decimal (case_row case).number ++ codes " " ++ (case_row case).section ++ codes " "
+    ++ (case_row case).text ++ codes "\n"
+
+-- the line of a code
+unfoldable pub code_line : Code → List ℕ
+code_line code = (code_row code).name ++ codes " " ++ (code_row code).text ++ codes "\n"

@@ -1,3 +1,5 @@
+ghost use Rattle.std.specs.Prelude.{◌≡◌, ◌≤◌, length};
+
 /// An undefined behaviour that is bounded (Annex L), and stops the run.
 #[derive(Clone, Copy, Debug, PartialEq, Eq)]
 pub enum Code {
@@ -25,4 +27,50 @@ pub enum Code {
     U11,
     /// A `_Bool` is read whose byte is neither 0 nor 1 (6.2.6.1).
     U12,
+}
+
+impl Code {
+    ghost use Rattle.critical_table.specs.Texts.{code_row};
+
+    /// The name of the code, as `U01`.
+    pub fn name(self) -> &'static str
+        ensures value { result.now ≡ (code_row self).name }
+        ensures short { length result.now ≤ 3 }
+    {
+        match self {
+            Code::U01 => "U01",
+            Code::U02 => "U02",
+            Code::U03 => "U03",
+            Code::U04 => "U04",
+            Code::U05 => "U05",
+            Code::U06 => "U06",
+            Code::U07 => "U07",
+            Code::U08 => "U08",
+            Code::U09 => "U09",
+            Code::U10 => "U10",
+            Code::U11 => "U11",
+            Code::U12 => "U12",
+        }
+    }
+
+    /// What is told of the code.
+    pub fn text(self) -> &'static str
+        ensures value { result.now ≡ (code_row self).text }
+        ensures short { length result.now ≤ 60 }
+    {
+        match self {
+            Code::U01 => "signed result out of range",
+            Code::U02 => "division by zero",
+            Code::U03 => "invalid shift",
+            Code::U04 => "value of a call that returned none",
+            Code::U05 => "indeterminate value read",
+            Code::U06 => "pointer moved outside its array",
+            Code::U07 => "difference of unrelated pointers",
+            Code::U08 => "order of unrelated pointers",
+            Code::U09 => "conversion undefined or outside the profile",
+            Code::U10 => "overlapping assignment",
+            Code::U11 => "overlapping copy",
+            Code::U12 => "invalid truth value read",
+        }
+    }
 }
