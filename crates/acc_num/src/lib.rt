@@ -6,10 +6,15 @@
 #![tactic(auto)]
 
 pub mod arithmetic;
+pub mod conversion;
 pub mod fault;
 pub mod kind;
 mod power;
+pub mod shift;
+mod taken;
 
-pub use arithmetic::add;
+pub use arithmetic::{add, div, mul, rem, sub};
+pub use conversion::convert;
 pub use fault::NumFault;
 pub use kind::{IntKind, greatest, least};
+pub use shift::{shl, shr};
