@@ -1,1 +1,2 @@
 pub mod GainsLemmas
+pub mod FilesLemmas

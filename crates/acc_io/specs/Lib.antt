@@ -1,5 +1,6 @@
 pub mod Cause
 pub mod Bytes
 pub mod Held
+pub mod Files
 pub mod Plan
 pub mod Views

@@ -1,7 +1,7 @@
 -- What contracts see of a source, a sink and a shelf in memory.
-use Rattle.std.specs.Prelude.{ℕ, List, Bool}
+use Rattle.std.specs.Prelude.{ℕ, List, [], Bool, true, false, Option, Some, None}
 use Rattle.acc_io.specs.Plan.{Plan}
-use Rattle.acc_io.specs.Held.{Held}
+use Rattle.acc_io.specs.Held.{File, Held}
 
 -- left: the bytes that were not read yet; piece: how many bytes one call moves at most
 pub record SourceView : Type 0 where
@@ -22,3 +22,13 @@ pub record ShelfView : Type 0 where
   pub selected : Bool
   pub piece : ℕ
   pub plan : Plan
+
+-- held: the files, and what is left of the selected one; selected: whether one is selected
+pub record Selection : Type 0 where
+  pub held : Held
+  pub selected : Bool
+
+-- the files with the one that a look-up gave selected from its first byte, or none
+abbrev pub selection : List File → Option (List ℕ) → Selection
+selection files None = record { held = record { files = files; left = [] }; selected = false }
+selection files (Some bytes) = record { held = record { files = files; left = bytes }; selected = true }

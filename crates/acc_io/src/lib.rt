@@ -6,9 +6,11 @@
 
 mod call_plan;
 pub mod failed;
+mod held_files;
 pub mod mem_sink;
 pub mod mem_source;
 mod pieces;
+mod place;
 pub mod shelf;
 pub mod sink;
 pub mod source;
