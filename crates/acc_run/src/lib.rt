@@ -1,6 +1,7 @@
 //! The commands of `acc`, and the top call `acc_main`.
 #![tactic(auto)]
 
+pub mod meaning;
 pub mod program;
 pub mod reading;
 pub mod words;
