@@ -1,14 +1,76 @@
--- What the top call answers, and what it writes: the job of the words, the unit that the shelf gave, its meaning, and
--- the report.
-use Rattle.std.specs.Prelude.{◌≡◌, ◌⊎◌, ◌×◌, ℕ, ◌+◌, ◌≤◌, List, [], ◌∷◌, ◌++◌, length, take, Option, Some, None, IsSome, IfSome}
+-- What the top call answers, why, and what it writes: by the job of the words, the unit that the shelf gave, its
+-- meaning, and the report.
+use Rattle.std.specs.Prelude.{◌≡◌, ◌⊎◌, ℕ, ◌+◌, ◌≤◌, List, [], length, Option, Some, None, IsSome, IfSome}
 use Rattle.acc_io.specs.Cause.{Rose}
 use Rattle.acc_io.specs.Bytes.{Gains, GainsPart}
 use Rattle.acc_io.specs.Held.{Held, file_of}
-use Rattle.critical_table.specs.declared.pos.Pos.{Pos}
 use Rattle.critical_table.specs.declared.refusal.Refusal.TheVariants.{Syntax}
 use Rattle.critical_table.specs.declared.ended.Ended.{Ended}
-use Rattle.critical_table.specs.declared.ended.Ended.TheVariants.{Exited, Aborted, Trapped, Undefined, OutOfTicks, OutOfBytes, ReadFault, WriteFault, ShelfFault, Refused, Usage, Printed, Memory}
+use Rattle.critical_table.specs.declared.ended.Ended.TheVariants.{WriteFault, ShelfFault, Refused, Usage, Memory}
 use Rattle.critical_table.specs.Report.{report_of}
 use Rattle.acc_run.specs.Program.{Form, IsUnit}
 use Rattle.acc_run.specs.Meaning.{Outcome, meaning_of}
 use Rattle.acc_run.specs.Job.{Job, Run, job_of}
+
+-- An object of the outside before and after a call: the count of its faults, and what it tells, if it does.
+pub record Seen (T : Type 0) : Type 0 where
+  pub faults_before : ℕ
+  pub faults_after : ℕ
+  pub before : Option T
+  pub after : Option T
+
+abbrev pub seen : {A T : Type 0} → (A → ℕ) → (A → Option T) → A → A → Seen T
+seen faults told old new = record { faults_before = faults old; faults_after = faults new; before = told old; after = told new }
+
+-- its count rose
+abbrev pub HasFailed : {T : Type 0} → Seen T → Type 0
+HasFailed object = Rose object.faults_before object.faults_after
+
+-- its count is as it was
+abbrev pub IsSound : {T : Type 0} → Seen T → Type 0
+IsSound object = object.faults_after ≡ object.faults_before
+
+-- The shelf gave this unit for the file: where the shelf tells its files, the first one of that name.
+abbrev pub HasUnit : Option Held → List ℕ → List ℕ → Type 0
+HasUnit told file unit = IfSome told (λ held. file_of held.files file ≡ Some unit)
+
+-- These bytes are no unit: they are refused at their first place.
+abbrev pub refusal : Outcome
+refusal = record { ended = Refused Syntax (record { line = 1; column = 1 }); output = [] }
+
+-- What becomes of a unit: its meaning, or the refusal where the bytes are none.
+abbrev pub Becomes : List ℕ → Outcome → Type 0
+Becomes unit outcome =
+    ((form : Form) × IsUnit form unit × (outcome ≡ meaning_of form))
+    ⊎ (((form : Form) → IsUnit form unit → ⊥) × (outcome ≡ refusal))
+
+-- Why an end comes, with what is written to the output. Want of memory may come at any time.
+abbrev pub Comes : List (List ℕ) → Seen Held → Ended → List ℕ → Type 0
+Comes words shelf Usage output = (job_of words ≡ None) × (output ≡ [])
+Comes words shelf ShelfFault output = IsSome (job_of words) × HasFailed shelf × (output ≡ [])
+Comes words shelf Memory output = output ≡ []
+Comes words shelf WriteFault output = ⊥
+Comes words shelf ended output =
+    (file unit : List ℕ) × (job_of words ≡ Some (Run file)) × HasUnit shelf.before file unit
+    × Becomes unit (record { ended = ended; output = output })
+
+-- What an answer says. A failed write stands above every other end: then what was due is written in part.
+-- Any other answer is the end that is due, and all of its output and its report is written.
+abbrev pub Answers : List (List ℕ) → Seen Held → Seen (List ℕ) → Seen (List ℕ) → Ended → Type 0
+Answers words shelf out err WriteFault =
+    (HasFailed out ⊎ HasFailed err)
+    × ((due : Ended) × (output : List ℕ) × Comes words shelf due output
+      × GainsPart out.before out.after output × GainsPart err.before err.after (report_of due))
+Answers words shelf out err ended =
+    IsSound out × IsSound err
+    × ((output : List ℕ) × Comes words shelf ended output
+      × Gains out.before out.after output × Gains err.before err.after (report_of ended))
+
+-- Over a shelf that doesn't fail and tells its files, the named one among them, and sinks with room for 200 bytes more
+-- than the text, the answer is what becomes of the unit, unless memory ran out.
+abbrev pub IsComplete : List (List ℕ) → Type 0 → Option Held → (ℕ → Type 0) → (ℕ → Type 0) → Ended → Type 0
+IsComplete words shelf_is_sound told out_has_room err_has_room answer =
+    (file unit : List ℕ) (held : Held) (outcome : Outcome) →
+    job_of words ≡ Some (Run file) → told ≡ Some held → file_of held.files file ≡ Some unit → Becomes unit outcome →
+    shelf_is_sound → out_has_room (length outcome.output + 200) → err_has_room 200 →
+    (answer ≡ outcome.ended) ⊎ (answer ≡ Memory)

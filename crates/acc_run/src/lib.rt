@@ -1,6 +1,8 @@
 //! The commands of `acc`, and the top call `acc_main`.
 #![tactic(auto)]
 
+pub mod job;
+pub mod load;
 pub mod meaning;
 pub mod program;
 pub mod reading;
