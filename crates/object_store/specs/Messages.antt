@@ -2,6 +2,7 @@
 use Rattle.std.specs.Prelude.{ℕ, List, [], ◌∷◌, ◌++◌, Some, true, codes, map}
 use Rattle.object_store.specs.declared.class.Class.TheVariants.{Static}
 use Rattle.object_store.specs.declared.mark.Mark.TheVariants.{Literal}
+use Rattle.object_store.specs.declared.cell.Cell.{Cell}
 use Rattle.object_store.specs.Object.{Object}
 use Rattle.object_store.specs.Storage.{Storage}
 
@@ -17,9 +18,13 @@ message_bytes =
     ++ codes "token not ended" ++ 0 ∷ []
     ++ codes "size is not zero" ++ 0 ∷ []
 
+-- a cell of a string literal
+abbrev pub literal_cell : ℕ → Cell
+literal_cell b = record { byte = Some b; mark = Literal }
+
 -- a static object of these bytes, sealed as a string literal is
 abbrev pub message_object : Object
-message_object = record { class = Static; live = true; cells = map (λ b. record { byte = Some b; mark = Literal }) message_bytes }
+message_object = record { class = Static; live = true; cells = map literal_cell message_bytes }
 
 -- a store that holds the message object alone
 abbrev pub fresh_store : ℕ → Storage

@@ -1,5 +1,5 @@
-ghost use Rattle.std.specs.Prelude.{◌≡◌, IfOk};
-ghost use Rattle.object_store.specs.Messages.{message_object};
+ghost use Rattle.std.specs.Prelude.{◌≡◌, IfOk, map};
+ghost use Rattle.object_store.specs.Messages.{message_object, literal_cell};
 
 use crate::cell::Cell;
 use crate::class::Class;
@@ -15,16 +15,22 @@ const MESSAGES: [u8; 131] =
 pub(crate) fn messages(alloc: Global) -> Result<Slot, AllocError>
     ensures { IfOk result (λ slot. slot ≡ message_object) }
 {
-    let cells: Vec<Cell> = MESSAGES
-        .iter()
-        .map(|byte| Cell {
-            byte: Some(*byte),
-            mark: Mark::Literal,
-        })
-        .collect(alloc)?;
+    let cells = literal_cells(alloc, &MESSAGES)?;
     Ok(Slot {
         class: Class::Static,
         live: true,
         cells,
     })
+}
+
+fn literal_cells(alloc: Global, bytes: &[u8]) -> Result<Vec<Cell>, AllocError>
+    ensures { IfOk result (λ cells. cells.items ≡ map literal_cell bytes.now) }
+{
+    bytes
+        .iter()
+        .map(|byte| Cell {
+            byte: Some(*byte),
+            mark: Mark::Literal,
+        })
+        .collect(alloc)
 }

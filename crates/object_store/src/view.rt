@@ -40,13 +40,20 @@ impl<'a> View<'a> {
         requires { index < length self.now }
         ensures { slice_get self.now index ≡ Some result }
     {
-        self.cells[index].byte
+        let cells = self.cells;
+        cells[index].byte
     }
 
     /// The index of the first byte that is 0, and not indeterminate; `None` where there is none.
     pub fn zero(&self) -> Option<usize>
         ensures { result ≡ position is_null self.now }
     {
-        self.cells.iter().position(|c| matches!(c.byte, Some(0)))
+        first_null(self.cells)
     }
+}
+
+fn first_null(cells: &[Cell]) -> Option<usize>
+    ensures { result ≡ position (λ c. is_null c.byte) cells.now }
+{
+    cells.iter().position(|c| matches!(c.byte, Some(0)))
 }
