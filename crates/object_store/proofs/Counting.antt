@@ -1,0 +1,50 @@
+-- How the count of live bytes changes with one object of the list.
+use Rattle.std.proofs.Common.{◌≡◌, ℕ, suc, zero, ◌+◌, ◌*◌, ◌<◌, ◌≤◌, List, [], ◌∷◌, length, drop, set, get_or, slice_get, Some, None, arith, sum_by, rules, refl, ◌∙◌, ap, true, false, ◌-◌}
+use Rattle.std.proofs.lemmas.List.Sums.{sum_by-set, get_or-le-sum_by}
+use Rattle.std.proofs.lemmas.List.{length-set}
+use Rattle.std.proofs.lemmas.Option.{slice_get_within, get_or_from_slice_get}
+use Rattle.object_store.specs.Object.{Object, place_of}
+use Rattle.object_store.specs.Storage.{live_size, counted, IsCounted}
+use Rattle.object_store.proofs.Found.{LiveAt}
+
+-- an object behind the first is replaced by another
+pub counted-set : (objects : List Object) (i : ℕ) (x y : Object) (calls : ℕ) → 0 < i → slice_get objects i ≡ Some x
+    → counted (set objects i y) calls + live_size x ≡ counted objects calls + live_size y
+counted-set [] i x y calls behind found = absurd (omega (arith, slice_get_within [] i x found))
+counted-set (o ∷ os) zero x y calls behind found = absurd (omega arith)
+counted-set (o ∷ os) (suc i) x y calls behind found =
+    let within : i < length os = slice_get_within os i x found in
+    let is : get_or os i x ≡ x = get_or_from_slice_get os i x x found in
+    let sum : sum_by live_size (set os i y) + live_size x ≡ sum_by live_size os + live_size y =
+    rw is at (sum_by-set live_size os i y x within) in
+    omega arith
+
+-- the first object is replaced by another
+pub counted-set_first : (objects : List Object) (y : Object) (calls : ℕ) → counted (set objects 0 y) calls ≡ counted objects calls
+counted-set_first [] y calls = refl
+counted-set_first (o ∷ os) y calls = refl
+
+-- an object is replaced by one that uses as many bytes
+pub counted-set_same : (objects : List Object) (i : ℕ) (x y : Object) (calls : ℕ) → slice_get objects i ≡ Some x → live_size y ≡ live_size x
+    → counted (set objects i y) calls ≡ counted objects calls
+counted-set_same objects zero x y calls found same = counted-set_first objects y calls
+counted-set_same objects (suc i) x y calls found same =
+    omega (arith, counted-set objects (suc i) x y calls (omega arith) found)
+
+-- an object behind the first dies
+pub IsCounted-dead : (objects : List Object) (number i size budget live calls : ℕ) (old new : Object) → LiveAt objects number
+    → i ≡ place_of number → 0 < i → old ≡ get_or objects i old → new ≡ record old { live = false } → size ≡ length new.cells
+    → IsCounted objects budget live calls → (size ≤ live) × IsCounted (set objects i new) budget (live - size) calls
+IsCounted-dead objects number i size budget live calls old new known e behind is dies sized before =
+    let at : slice_get objects i ≡ Some known.object = rw e known.at in
+    let same : old ≡ known.object = is ∙ get_or_from_slice_get objects i known.object old at in
+    let was : live_size known.object ≡ length known.object.cells = rw known.live refl in
+    let sum : counted (set objects i new) calls + live_size known.object ≡ counted objects calls + live_size new =
+        counted-set objects i known.object new calls behind at in
+    let none : live_size new ≡ 0 = rw dies refl in
+    let cells : size ≡ length known.object.cells = rw (sized, dies, same) refl in
+    (omega (arith, before.sum), record {
+        messages = omega (arith, before.messages, length-set {A = Object});
+        few = omega (arith, before.few, length-set {A = Object});
+        sum = omega (arith, before.sum);
+        within = omega (arith, before.within) })

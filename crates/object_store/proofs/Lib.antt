@@ -1,0 +1,4 @@
+pub mod CellLists
+pub mod Counting
+pub mod Found
+pub mod Positions

@@ -1,0 +1,5 @@
+pub mod Object
+pub mod Storage
+pub mod Messages
+pub mod Steps
+pub mod Reach

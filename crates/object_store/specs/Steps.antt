@@ -1,0 +1,81 @@
+-- What each operation makes of the store.
+use Rattle.std.specs.Prelude.{ℕ, ◌+◌, ◌-◌, ◌==◌, Bool, true, false, List, [], ◌∷◌, ◌++◌, Option, Some, None, length, take, drop, map, replicate, slice_get, slice_set}
+use Rattle.std.specs.Option.{option_map_or}
+use Rattle.object_store.specs.declared.class.Class.{Class}
+use Rattle.object_store.specs.declared.mark.Mark.{Mark}
+use Rattle.object_store.specs.declared.mark.Mark.TheVariants.{Plain}
+use Rattle.object_store.specs.declared.cell.Cell.{Cell}
+use Rattle.object_store.specs.declared.pointer.Pointer.{Pointer}
+use Rattle.object_store.specs.Object.{Object, number_of, place_of, object_of}
+use Rattle.object_store.specs.Storage.{Storage}
+
+-- a cell that holds a byte, or is indeterminate, and may be stored to
+abbrev pub stored_cell : Option ℕ → Cell
+stored_cell byte = record { byte = byte; mark = Plain }
+
+-- a new object: live, plain and indeterminate
+abbrev pub new_object : ℕ → Class → Object
+new_object size class = record { class = class; live = true; cells = replicate size (stored_cell None) }
+
+-- the number that the next object gets
+abbrev pub next_number : Storage → Class → ℕ
+next_number s class = number_of class (length s.objects + 1)
+
+-- an object is made
+abbrev pub with_new : Storage → ℕ → Class → Storage
+with_new s size class = record s { objects = s.objects ++ new_object size class ∷ [] }
+
+-- the object with this number is changed
+abbrev pub with_changed : Storage → ℕ → (Object → Object) → Storage
+with_changed s number change = record s {
+  objects =
+      option_map_or (λ o. slice_set s.objects (place_of number) (change o)) (slice_get s.objects (place_of number)) s.objects;
+}
+
+-- the lifetime of the object ends
+abbrev pub with_dead : Storage → ℕ → Storage
+with_dead s number = with_changed s number (λ o. record o { live = false })
+
+-- the cells from a place on are replaced by as many others
+abbrev pub with_cells : List Cell → ℕ → List Cell → List Cell
+with_cells cells at other = take at cells ++ other ++ drop (at + length other) cells
+
+-- the cells of a range
+abbrev pub range : List Cell → ℕ → ℕ → List Cell
+range cells at len = take len (drop at cells)
+
+-- a cell gets a mark
+abbrev pub marked : Mark → Cell → Cell
+marked mark c = record c { mark = mark }
+
+-- the cells of a range get a mark
+abbrev pub with_mark : Storage → ℕ → ℕ → ℕ → Mark → Storage
+with_mark s number at len mark = with_changed s number
+    (λ o. record o { cells = with_cells o.cells at (map (marked mark) (range o.cells at len)) })
+
+-- a call is entered, and left
+abbrev pub with_call : Storage → Storage
+with_call s = record s { open_calls = s.open_calls + 1 }
+
+abbrev pub without_call : Storage → Storage
+without_call s = record s { open_calls = s.open_calls - 1 }
+
+-- the cells of the object that has this number
+abbrev pub cells_of : Storage → ℕ → List Cell
+cells_of s number = option_map_or (λ o. o.cells) (object_of s.objects number) []
+
+-- the bytes that a range holds; none where a cell is indeterminate
+abbrev pub bytes_at : Storage → Pointer → ℕ → List (Option ℕ)
+bytes_at s place len = map (λ c. c.byte) (range (cells_of s place.object) place.offset len)
+
+-- A store: the cells of the range are replaced, and the store is noted. One of no bytes changes nothing, and is none.
+unfoldable pub stored : Storage → Pointer → List (Option ℕ) → Storage
+stored s place [] = s
+stored s place (b ∷ bytes) = record (with_changed s place.object
+    (λ o. record o { cells = with_cells o.cells place.offset (map stored_cell (b ∷ bytes)) }))
+    { writes = s.writes ++ record { object = place.object; at = place.offset; len = length (b ∷ bytes) } ∷ [] }
+
+-- whether a byte is known, and 0
+abbrev pub is_null : Option ℕ → Bool
+is_null None = false
+is_null (Some b) = b == 0

@@ -1,0 +1,29 @@
+//! The objects of a run (3.15) and the accesses to them.
+//!
+//! A pointer has a number of an object and bounds in it. An access is reached first, which answers the critical case of
+//! Annex L that it is, if it is one; only a range that was reached is viewed or stored to. Contracts see a `Store` as the
+//! list of all objects that were ever made.
+#![tactic(auto)]
+
+pub mod by;
+pub mod cell;
+mod cells;
+pub mod class;
+pub mod fault;
+pub mod mark;
+mod messages;
+pub mod pointer;
+mod slot;
+pub mod store;
+pub mod view;
+pub mod writes;
+
+pub use by::By;
+pub use cell::Cell;
+pub use class::Class;
+pub use fault::{MakeFault, OverBytes};
+pub use mark::Mark;
+pub use pointer::Pointer;
+pub use store::Store;
+pub use view::View;
+pub use writes::{Write, Writes};

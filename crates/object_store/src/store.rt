@@ -1,0 +1,195 @@
+ghost use Rattle.std.specs.Prelude.{◌≡◌, ◌+◌, ◌-◌, ◌*◌, ◌<◌, ◌≤◌, ◌↔◌, [], Some, None, IfOk, IsErr, IsErrOf, OnOk, OnErr, IsTrue, option_copied, length, map, replicate};
+ghost use Rattle.object_store.specs.Object.{place_of};
+
+use crate::class::Class;
+use crate::fault::{MakeFault, OverBytes};
+use crate::mark::Mark;
+use crate::messages::messages;
+use crate::pointer::Pointer;
+use crate::slot::Slot;
+use crate::view::View;
+use crate::writes::{Write, Writes};
+use std::alloc::{AllocError, Global};
+use std::marker::Model;
+use std::mem;
+
+/// The objects of a run, within a budget of bytes. Contracts see all objects that were ever made, in order, with their
+/// cells, the budget, the number of open calls, and the stores since they were last taken.
+#[derive(Drop)]
+pub struct Store {
+    alloc: Global,
+    slots: Vec<Slot>,
+    budget: u64,
+    live: u64,
+    open_calls: u64,
+    writes: Writes,
+}
+
+impl Model for Store {
+    ghost use Rattle.object_store.specs.Storage.{Storage, IsCounted};
+
+    ghost Value = { Storage };
+
+    ghost view = { λ store. record {
+      objects = store.slots.items;
+      budget = store.budget;
+      open_calls = store.open_calls;
+      writes = store.writes;
+    } };
+
+    ghost invariant = { λ store. IsCounted store.slots.items store.budget store.live store.open_calls };
+}
+
+impl Store {
+    ghost use Rattle.object_store.specs.Object.{number_of, place_of, object_of};
+    ghost use Rattle.object_store.specs.Storage.{is_live, live_bytes, fits};
+    ghost use Rattle.object_store.specs.Messages.{fresh_store};
+    ghost use Rattle.object_store.specs.Steps.{next_number, with_new, with_dead, with_mark, with_call, without_call, cells_of, bytes_at, stored};
+
+    /// A store with this budget, that holds the message object alone.
+    pub fn new(alloc: Global, bytes: u64) -> Result<Store, AllocError>
+        ensures { IfOk result (λ store. store ≡ fresh_store bytes) }
+    {
+        let mut slots = Vec::new(alloc);
+        slots.push(messages(alloc)?)?;
+        Ok(Store {
+            alloc,
+            slots,
+            budget: bytes,
+            live: 0,
+            open_calls: 0,
+            writes: Writes::new(),
+        })
+    }
+
+    /// Makes an object and answers its number. Its bytes are indeterminate and may be stored to.
+    ///
+    /// `OverBytes` comes exactly where the live bytes and the size pass the budget. After a fault the store is as before.
+    #[tactic(auto, unfolding(crate::specs::Storage::live_bytes))]
+    pub fn make(&mut self, size: u32, class: Class) -> Result<u32, MakeFault>
+        requires size { (0 < size) × (size ≤ 16777216) }
+        requires few { length self.old.objects < 2004194305 }
+        ensures made { OnOk result (self.new ≡ with_new self.old size class) }
+        ensures number { IfOk result (λ number. number ≡ next_number self.old class) }
+        ensures over { IsErrOf result MakeFault.OverBytes ↔ (self.old.budget < live_bytes self.old + size) }
+        ensures fault { OnErr result (self.new ≡ self.old) }
+    {
+        if !self.fits(0, u64::from(size)) {
+            return Err(MakeFault::OverBytes);
+        }
+        let slot = Slot::new(self.alloc, size, class).map_err(MakeFault::Memory)?;
+        let number = slot.number(self.slots.len() as u32);
+        self.slots
+            .push(slot)
+            .map_err(|_| MakeFault::Memory(AllocError))?;
+        self.live += u64::from(size);
+        Ok(number)
+    }
+
+    /// Ends the lifetime of a live object.
+    #[tactic(auto, unfolding(crate::specs::Storage::live_bytes))]
+    pub fn kill(&mut self, object: u32)
+        requires { IsTrue (is_live self.old object) }
+        ensures { self.new ≡ with_dead self.old object }
+    {
+        let index = index_of(object);
+        let slot = &mut self.slots[index];
+        slot.kill();
+        if index > 0 {
+            let size = slot.size() as u64;
+            self.live -= size;
+        }
+    }
+
+    /// Gives the bytes of a range of a live object a mark.
+    pub fn seal(&mut self, object: u32, at: u32, len: u32, mark: Mark)
+        requires live { IsTrue (is_live self.old object) }
+        requires range { at + len ≤ length (cells_of self.old object) }
+        ensures { self.new ≡ with_mark self.old object at len mark }
+    {
+        let slot = &mut self.slots[index_of(object)];
+        slot.seal(at as usize, len as usize, mark);
+    }
+
+    /// Counts 256 bytes for a call that is entered.
+    ///
+    /// `OverBytes` comes exactly where the live bytes and these pass the budget. Then the store is as before.
+    #[tactic(auto, unfolding(crate::specs::Storage::live_bytes))]
+    pub fn enter(&mut self) -> Result<(), OverBytes>
+        ensures entered { OnOk result (self.new ≡ with_call self.old) }
+        ensures over { IsErr result ↔ (self.old.budget < live_bytes self.old + 256) }
+        ensures fault { OnErr result (self.new ≡ self.old) }
+    {
+        if !self.fits(0, 256) {
+            return Err(OverBytes);
+        }
+        self.live += 256;
+        self.open_calls += 1;
+        Ok(())
+    }
+
+    /// Gives back the bytes of a call that is left.
+    #[tactic(auto, unfolding(crate::specs::Storage::live_bytes))]
+    pub fn leave(&mut self)
+        requires { 0 < self.old.open_calls }
+        ensures { self.new ≡ without_call self.old }
+    {
+        self.live -= 256;
+        self.open_calls -= 1;
+    }
+
+    /// Whether the number is that of an object whose lifetime goes on.
+    pub fn is_live(&self, object: u32) -> bool
+        ensures { result ≡ is_live self.now object }
+    {
+        match self.find(object) {
+            Some(slot) => slot.live,
+            None => false,
+        }
+    }
+
+    /// The sizes of all live objects but the message object, and 256 for each open call.
+    #[tactic(auto, unfolding(crate::specs::Storage::live_bytes))]
+    pub fn live_bytes(&self) -> u64
+        ensures value { result ≡ live_bytes self.now }
+        ensures within { result ≤ self.now.budget }
+    {
+        self.live
+    }
+
+    /// Whether so many bytes more stay within the budget, once `released` bytes are given back.
+    #[tactic(auto, unfolding(crate::specs::Storage::live_bytes))]
+    pub fn fits(&self, released: u64, size: u64) -> bool
+        ensures { result ≡ fits self.now released size }
+    {
+        size <= self.budget - self.live.saturating_sub(released)
+    }
+
+    /// Hands over the stores since this was last called, in order; those of length 0 are none.
+    pub fn taken(&mut self) -> Writes
+        ensures given { result ≡ self.old.writes }
+        ensures rest { self.new ≡ record self.old { writes = [] } }
+    {
+        mem::replace(&mut self.writes, Writes::new())
+    }
+
+    /// The object with this number.
+    fn find(&self, object: u32) -> Option<&Slot>
+        ensures { option_copied result ≡ object_of self.now.objects object }
+    {
+        let index = index_of(object);
+        let slot = self.slots.get(index)?;
+        if slot.number(index as u32) == object {
+            Some(slot)
+        } else {
+            None
+        }
+    }
+}
+
+/// Where in the list an object with this number stands.
+fn index_of(object: u32) -> usize
+    ensures { result ≡ place_of object }
+{
+    (object / 2).saturating_sub(1) as usize
+}
