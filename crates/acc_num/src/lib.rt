@@ -12,6 +12,8 @@ pub mod kind;
 mod power;
 pub mod shift;
 mod taken;
+#[cfg(test)]
+mod tests;
 
 pub use arithmetic::{add, div, mul, rem, sub};
 pub use conversion::convert;
