@@ -19,6 +19,8 @@ pub mod sink;
 pub mod sound_shelf;
 pub mod source;
 pub mod streams;
+#[cfg(test)]
+mod tests;
 pub mod write_sink;
 pub mod writing;
 

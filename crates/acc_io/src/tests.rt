@@ -1,0 +1,183 @@
+use crate::{
+    Failed, FileShelf, MemShelf, MemSink, MemSource, Shelf, Sink, SoundShelf, Source, WriteSink,
+    write_all,
+};
+use std::alloc::{AllocError, Global};
+use std::fs::File;
+use std::io::Write;
+use std::process::Abort;
+use std::test::Fail;
+use std::{fs, io};
+
+// One mark for a call: how many bytes it moved, or `!` where it failed.
+fn mark(outcome: Result<usize, Failed>) -> char {
+    match outcome {
+        Ok(n) if n < 10 => char::from(b'0' + n as u8),
+        Ok(_) => '+',
+        Err(_) => '!',
+    }
+}
+
+fn selected(outcome: Result<(), Failed>) -> char {
+    match outcome {
+        Ok(()) => '.',
+        Err(_) => '!',
+    }
+}
+
+#[test]
+fn source_reads_by_pieces(rt: HostRuntime) -> Result<(), Fail> {
+    let cases: [(usize, &[u64], &str); 4] = [
+        (1, &[], "1111110"),
+        (7, &[], "420"),
+        (7, &[2], "4!200"),
+        (5, &[1, 2], "!!420"),
+    ];
+    for (piece, failing, want) in cases {
+        assert!(rt; piece > 0);
+        let bytes = b"abcdef".to_vec(rt.alloc())?;
+        let mut source = MemSource::new(bytes, piece, failing.to_vec(rt.alloc())?);
+        let mut marks = String::new(rt.alloc());
+        let mut read = Vec::new(rt.alloc());
+        for _ in 0..want.len() {
+            let mut buf = [0; 4];
+            let outcome = source.read(&mut buf);
+            if let Ok(n) = outcome {
+                read.extend_from_slice(&buf[..n])?;
+            }
+            marks.push(mark(outcome))?;
+        }
+        assert_eq!(rt; marks.as_str(), want, "at pieces of {piece}");
+        assert_eq!(rt; read.as_slice(), b"abcdef".as_slice());
+    }
+    Ok(())
+}
+
+#[test]
+fn sink_takes_pieces_up_to_its_room(rt: HostRuntime) -> Result<(), Fail> {
+    // each call writes the three bytes `abc`; the last call is a flush
+    let cases: [(usize, usize, &[u64], &str, &[u8]); 5] = [
+        (1, 9, &[], "111.", b"aaa"),
+        (7, 9, &[], "333.", b"abcabcabc"),
+        (7, 5, &[], "32!.", b"abcab"),
+        (7, 9, &[1, 2], "!!3.", b"abc"),
+        (7, 9, &[2, 4], "3!3!", b"abcabc"),
+    ];
+    for (piece, room, failing, want, bytes) in cases {
+        assert!(rt; piece > 0);
+        let mut sink = MemSink::new(rt.alloc(), room, piece, failing.to_vec(rt.alloc())?)?;
+        let mut marks = String::new(rt.alloc());
+        for _ in 0..3 {
+            marks.push(mark(sink.write(b"abc")))?;
+        }
+        marks.push(selected(sink.flush()))?;
+        assert_eq!(rt; marks.as_str(), want, "at pieces of {piece}");
+        assert_eq!(rt; sink.bytes(), bytes);
+    }
+    Ok(())
+}
+
+#[test]
+fn write_all_writes_all_or_a_front(rt: HostRuntime) -> Result<(), Fail> {
+    let cases: [(usize, &[u64], &[u8]); 3] = [
+        (9, &[], b"abcdef"),
+        (4, &[], b"abcd"),
+        (9, &[2], b"ab"),
+    ];
+    for (room, failing, bytes) in cases {
+        let mut sink = MemSink::new(rt.alloc(), room, 2, failing.to_vec(rt.alloc())?)?;
+        assert_eq!(rt; write_all(&mut sink, b"abcdef").is_ok(), bytes.len() == 6);
+        assert_eq!(rt; sink.bytes(), bytes);
+    }
+    Ok(())
+}
+
+fn named(alloc: Global, name: &str, bytes: &[u8]) -> Result<(String, Vec<u8>), AllocError> {
+    Ok((String::from_str(alloc, name)?, bytes.to_vec(alloc)?))
+}
+
+fn two_of_one_name(alloc: Global) -> Result<Vec<(String, Vec<u8>)>, AllocError> {
+    let mut files = Vec::new(alloc);
+    files.push(named(alloc, "b.c", b"other")?)?;
+    files.push(named(alloc, "a.c", b"first")?)?;
+    files.push(named(alloc, "a.c", b"second")?)?;
+    Ok(files)
+}
+
+// Reads before a select, then selects a.c and reads twice, then selects a name that is not there and reads, then
+// selects a.c again and reads. Two reads of at most four bytes are enough for the whole file of five.
+fn shelf_marks<S: Shelf>(rt: &(impl Abort + AllocGlobal), shelf: &mut S) -> Result<String, Fail> {
+    let mut marks = String::new(rt.alloc());
+    let mut buf = [0; 4];
+    marks.push(mark(shelf.read(&mut buf)))?;
+    marks.push(selected(shelf.select("a.c")))?;
+    marks.push(mark(shelf.read(&mut buf)))?;
+    marks.push(mark(shelf.read(&mut buf)))?;
+    marks.push(selected(shelf.select("none.c")))?;
+    marks.push(mark(shelf.read(&mut buf)))?;
+    marks.push(selected(shelf.select("a.c")))?;
+    marks.push(mark(shelf.read(&mut buf)))?;
+    assert_eq!(rt; buf[0], b'f');
+    Ok(marks)
+}
+
+#[test]
+fn shelf_reads_the_first_of_a_name(rt: HostRuntime) -> Result<(), Fail> {
+    let cases: [(usize, &[u64], &str); 3] = [
+        (1, &[], "0.11!0.1"),
+        (7, &[], "0.41!0.4"),
+        (7, &[1, 2], "!!00!0.4"),
+    ];
+    for (piece, failing, want) in cases {
+        assert!(rt; piece > 0);
+        let files = two_of_one_name(rt.alloc())?;
+        let mut shelf = MemShelf::new(files, piece, failing.to_vec(rt.alloc())?);
+        assert_eq!(rt;
+            shelf_marks(&rt, &mut shelf)?.as_str(),
+            want,
+            "at pieces of {piece}"
+        );
+    }
+    let mut shelf = SoundShelf::new(two_of_one_name(rt.alloc())?, 7);
+    assert_eq!(rt; shelf_marks(&rt, &mut shelf)?.as_str(), "0.41!0.4");
+    Ok(())
+}
+
+#[test]
+fn file_shelf_reads_a_real_file(rt: HostRuntime) -> Result<(), Fail> {
+    fs::write(&rt, "a.c", "first")?;
+    let mut shelf = FileShelf::new(rt);
+    assert_eq!(rt; shelf_marks(&rt, &mut shelf)?.as_str(), "0.41!0.4");
+    fs::remove_file(&rt, "a.c")?;
+    Ok(())
+}
+
+// A writer that takes nothing.
+#[derive(Drop)]
+struct Full;
+
+impl Write for Full {
+    fn write(&mut self, _buf: &[u8]) -> io::Result<usize> {
+        Ok(0)
+    }
+
+    fn flush(&mut self) -> io::Result<()> {
+        Ok(())
+    }
+}
+
+#[test]
+fn write_sink_writes_a_real_file(rt: HostRuntime) -> Result<(), Fail> {
+    let mut sink = WriteSink::new(File::create(&rt, "out.txt")?);
+    assert!(rt; write_all(&mut sink, b"hello").is_ok() && sink.flush().is_ok());
+    assert_eq!(rt; fs::read_to_string(&rt, "out.txt")?.as_str(), "hello");
+
+    // a file that is open for reading alone takes nothing
+    let mut refused = WriteSink::new(File::open(&rt, "out.txt")?);
+    assert!(rt; write_all(&mut refused, b"more").is_err());
+    fs::remove_file(&rt, "out.txt")?;
+
+    let mut full = WriteSink::new(Full);
+    assert!(rt; write_all(&mut full, b"more").is_err() && write_all(&mut full, b"").is_ok());
+    Ok(())
+}
