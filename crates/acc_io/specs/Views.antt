@@ -9,6 +9,11 @@ pub record SourceView : Type 0 where
   pub piece : ℕ
   pub plan : Plan
 
+-- the same of a source that never fails
+pub record SoundSourceView : Type 0 where
+  pub left : List ℕ
+  pub piece : ℕ
+
 -- written: the bytes that were written; room: how many it holds at most
 pub record SinkView : Type 0 where
   pub written : List ℕ

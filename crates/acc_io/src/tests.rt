@@ -1,6 +1,6 @@
 use crate::{
-    Failed, FileShelf, MemShelf, MemSink, MemSource, Shelf, Sink, SoundShelf, Source, WriteSink,
-    write_all,
+    Failed, FileShelf, MemShelf, MemSink, MemSource, ReadSource, Shelf, Sink, SoundShelf,
+    SoundSource, Source, WriteSink, write_all,
 };
 use std::alloc::{AllocError, Global};
 use std::fs::File;
@@ -9,8 +9,8 @@ use std::process::Abort;
 use std::test::Fail;
 use std::{fs, io};
 
-// One mark for a call: how many bytes it moved, or `!` where it failed.
-fn mark(outcome: Result<usize, Failed>) -> char {
+// The mark of a call: how many bytes it moved, or `!` where it failed.
+fn moved(outcome: Result<usize, Failed>) -> char {
     match outcome {
         Ok(n) if n < 10 => char::from(b'0' + n as u8),
         Ok(_) => '+',
@@ -25,53 +25,58 @@ fn selected(outcome: Result<(), Failed>) -> char {
     }
 }
 
+// Reads by a buffer of four bytes, until each mark was met.
+fn reads<S: Source>(rt: &impl Abort, source: &mut S, marks: &str) {
+    let mut buf = [0; 4];
+    let mut next = b'a';
+    for want in marks.chars() {
+        let outcome = source.read(&mut buf);
+        if let Ok(n) = outcome {
+            for byte in &buf[..n] {
+                assert_eq!(rt; *byte, next);
+                next = next.wrapping_add(1);
+            }
+        }
+        assert_eq!(rt; moved(outcome), want);
+    }
+}
+
 #[test]
-fn source_reads_by_pieces(rt: HostRuntime) -> Result<(), Fail> {
+fn sources_read_by_pieces(rt: HostRuntime) -> Result<(), Fail> {
     let cases: [(usize, &[u64], &str); 4] = [
         (1, &[], "1111110"),
         (7, &[], "420"),
         (7, &[2], "4!200"),
         (5, &[1, 2], "!!420"),
     ];
-    for (piece, failing, want) in cases {
+    for (piece, failing, marks) in cases {
         assert!(rt; piece > 0);
         let bytes = b"abcdef".to_vec(rt.alloc())?;
         let mut source = MemSource::new(bytes, piece, failing.to_vec(rt.alloc())?);
-        let mut marks = String::new(rt.alloc());
-        let mut read = Vec::new(rt.alloc());
-        for _ in 0..want.len() {
-            let mut buf = [0; 4];
-            let outcome = source.read(&mut buf);
-            if let Ok(n) = outcome {
-                read.extend_from_slice(&buf[..n])?;
-            }
-            marks.push(mark(outcome))?;
-        }
-        assert_eq!(rt; marks.as_str(), want, "at pieces of {piece}");
-        assert_eq!(rt; read.as_slice(), b"abcdef".as_slice());
+        reads(&rt, &mut source, marks);
     }
+    let mut sound = SoundSource::new(b"abcdef".to_vec(rt.alloc())?, 7);
+    reads(&rt, &mut sound, "420");
     Ok(())
 }
 
 #[test]
 fn sink_takes_pieces_up_to_its_room(rt: HostRuntime) -> Result<(), Fail> {
-    // each call writes the three bytes `abc`; the last call is a flush
+    // each call writes the three bytes `abc`
     let cases: [(usize, usize, &[u64], &str, &[u8]); 5] = [
-        (1, 9, &[], "111.", b"aaa"),
-        (7, 9, &[], "333.", b"abcabcabc"),
-        (7, 5, &[], "32!.", b"abcab"),
-        (7, 9, &[1, 2], "!!3.", b"abc"),
-        (7, 9, &[2, 4], "3!3!", b"abcabc"),
+        (1, 9, &[], "111", b"aaa"),
+        (7, 9, &[], "333", b"abcabcabc"),
+        (7, 5, &[], "32!", b"abcab"),
+        (7, 9, &[1, 2], "!!3", b"abc"),
+        (7, 9, &[2], "3!3", b"abcabc"),
     ];
-    for (piece, room, failing, want, bytes) in cases {
+    for (piece, room, failing, marks, bytes) in cases {
         assert!(rt; piece > 0);
         let mut sink = MemSink::new(rt.alloc(), room, piece, failing.to_vec(rt.alloc())?)?;
-        let mut marks = String::new(rt.alloc());
-        for _ in 0..3 {
-            marks.push(mark(sink.write(b"abc")))?;
+        for want in marks.chars() {
+            assert_eq!(rt; moved(sink.write(b"abc")), want);
         }
-        marks.push(selected(sink.flush()))?;
-        assert_eq!(rt; marks.as_str(), want, "at pieces of {piece}");
+        assert_eq!(rt; selected(sink.flush()), '.');
         assert_eq!(rt; sink.bytes(), bytes);
     }
     Ok(())
@@ -92,6 +97,22 @@ fn write_all_writes_all_or_a_front(rt: HostRuntime) -> Result<(), Fail> {
     Ok(())
 }
 
+// Each step selects a name, or reads by a buffer of four bytes where there is none.
+const STEPS: [&str; 8] = ["", "a.c", "", "", "none.c", "", "a.c", ""];
+
+fn walks<S: Shelf>(rt: &impl Abort, shelf: &mut S, marks: &str) {
+    let mut buf = [0; 4];
+    for (name, want) in STEPS.iter().zip(marks.chars()) {
+        let mark = if name.is_empty() {
+            moved(shelf.read(&mut buf))
+        } else {
+            selected(shelf.select(name))
+        };
+        assert_eq!(rt; mark, want);
+    }
+    assert_eq!(rt; buf[0], b'f');
+}
+
 fn named(alloc: Global, name: &str, bytes: &[u8]) -> Result<(String, Vec<u8>), AllocError> {
     Ok((String::from_str(alloc, name)?, bytes.to_vec(alloc)?))
 }
@@ -104,51 +125,46 @@ fn two_of_one_name(alloc: Global) -> Result<Vec<(String, Vec<u8>)>, AllocError> 
     Ok(files)
 }
 
-// Reads before a select, then selects a.c and reads twice, then selects a name that is not there and reads, then
-// selects a.c again and reads. Two reads of at most four bytes are enough for the whole file of five.
-fn shelf_marks<S: Shelf>(rt: &(impl Abort + AllocGlobal), shelf: &mut S) -> Result<String, Fail> {
-    let mut marks = String::new(rt.alloc());
-    let mut buf = [0; 4];
-    marks.push(mark(shelf.read(&mut buf)))?;
-    marks.push(selected(shelf.select("a.c")))?;
-    marks.push(mark(shelf.read(&mut buf)))?;
-    marks.push(mark(shelf.read(&mut buf)))?;
-    marks.push(selected(shelf.select("none.c")))?;
-    marks.push(mark(shelf.read(&mut buf)))?;
-    marks.push(selected(shelf.select("a.c")))?;
-    marks.push(mark(shelf.read(&mut buf)))?;
-    assert_eq!(rt; buf[0], b'f');
-    Ok(marks)
-}
-
 #[test]
-fn shelf_reads_the_first_of_a_name(rt: HostRuntime) -> Result<(), Fail> {
+fn shelves_read_the_first_of_a_name(rt: HostRuntime) -> Result<(), Fail> {
     let cases: [(usize, &[u64], &str); 3] = [
         (1, &[], "0.11!0.1"),
         (7, &[], "0.41!0.4"),
         (7, &[1, 2], "!!00!0.4"),
     ];
-    for (piece, failing, want) in cases {
+    for (piece, failing, marks) in cases {
         assert!(rt; piece > 0);
         let files = two_of_one_name(rt.alloc())?;
-        let mut shelf = MemShelf::new(files, piece, failing.to_vec(rt.alloc())?);
-        assert_eq!(rt;
-            shelf_marks(&rt, &mut shelf)?.as_str(),
-            want,
-            "at pieces of {piece}"
+        walks(
+            &rt,
+            &mut MemShelf::new(files, piece, failing.to_vec(rt.alloc())?),
+            marks,
         );
     }
-    let mut shelf = SoundShelf::new(two_of_one_name(rt.alloc())?, 7);
-    assert_eq!(rt; shelf_marks(&rt, &mut shelf)?.as_str(), "0.41!0.4");
+    walks(
+        &rt,
+        &mut SoundShelf::new(two_of_one_name(rt.alloc())?, 7),
+        "0.41!0.4",
+    );
     Ok(())
 }
 
 #[test]
 fn file_shelf_reads_a_real_file(rt: HostRuntime) -> Result<(), Fail> {
     fs::write(&rt, "a.c", "first")?;
-    let mut shelf = FileShelf::new(rt);
-    assert_eq!(rt; shelf_marks(&rt, &mut shelf)?.as_str(), "0.41!0.4");
+    walks(&rt, &mut FileShelf::new(rt), "0.41!0.4");
     fs::remove_file(&rt, "a.c")?;
+    Ok(())
+}
+
+#[test]
+fn read_source_reads_a_real_file(rt: HostRuntime) -> Result<(), Fail> {
+    fs::write(&rt, "in.txt", "abcde")?;
+    reads(&rt, &mut ReadSource::new(File::open(&rt, "in.txt")?), "410");
+    fs::remove_file(&rt, "in.txt")?;
+
+    // a folder can't be read
+    reads(&rt, &mut ReadSource::new(File::open(&rt, ".")?), "!");
     Ok(())
 }
 
