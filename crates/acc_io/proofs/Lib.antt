@@ -1,2 +1,3 @@
 pub mod GainsLemmas
 pub mod FilesLemmas
+pub mod SelectionLemmas

@@ -1,7 +1,7 @@
 -- Files by name as the code holds them, as contracts see them, and the place in the selected one.
-use Rattle.std.specs.Prelude.{◌≡◌, ℕ, ◌<◌, ◌≤◌, List, [], ◌∷◌, length, drop, map, Bool, true, false, Option, Some, None, slice_get, string_bytes, String, Vec, IsSomeAnd}
+use Rattle.std.specs.Prelude.{ℕ, ◌≤◌, List, [], ◌∷◌, length, drop, Option, Some, None, slice_get, string_bytes, String, Vec, IsSomeAnd}
 use Rattle.std.specs.Option.{option_map_or}
-use Rattle.acc_io.specs.Held.{File, Held}
+use Rattle.acc_io.specs.Held.{File}
 use Rattle.acc_io.specs.declared.place.Place.{Place}
 
 -- the files as contracts see them

@@ -9,6 +9,11 @@ pub record SourceView : Type 0 where
   pub piece : ℕ
   pub plan : Plan
 
+-- the same of a source that never fails
+pub record SoundSourceView : Type 0 where
+  pub left : List ℕ
+  pub piece : ℕ
+
 -- written: the bytes that were written; room: how many it holds at most
 pub record SinkView : Type 0 where
   pub written : List ℕ
@@ -16,12 +21,19 @@ pub record SinkView : Type 0 where
   pub piece : ℕ
   pub plan : Plan
 
--- held: the files, and what is left of the selected one
+-- held: the files, and what is left of the selected one; selected: whether one is selected
 pub record ShelfView : Type 0 where
   pub held : Held
   pub selected : Bool
   pub piece : ℕ
   pub plan : Plan
+
+-- the same of a shelf that fails at no call that it was told to; faults: how many there were
+pub record SoundShelfView : Type 0 where
+  pub held : Held
+  pub selected : Bool
+  pub piece : ℕ
+  pub faults : ℕ
 
 -- held: the files, and what is left of the selected one; selected: whether one is selected
 pub record Selection : Type 0 where
@@ -32,3 +44,8 @@ pub record Selection : Type 0 where
 abbrev pub selection : List File → Option (List ℕ) → Selection
 selection files None = record { held = record { files = files; left = [] }; selected = false }
 selection files (Some bytes) = record { held = record { files = files; left = bytes }; selected = true }
+
+-- of a shelf of real files, whether one is selected, and how many faults there were
+pub record FileShelfView : Type 0 where
+  pub selected : Bool
+  pub faults : ℕ

@@ -3,6 +3,7 @@ ghost use Rattle.acc_io.specs.Cause.{HasCause, Rose};
 ghost use Rattle.acc_io.specs.Plan.{FailsNext, planned, called, faulted};
 
 use crate::failed::Failed;
+use crate::fault_count::FaultCount;
 use std::marker::Model;
 
 /// Which calls on an object fail, and how many calls and faults there were.
@@ -10,7 +11,7 @@ use std::marker::Model;
 pub(crate) struct CallPlan {
     failing: Vec<u64>,
     calls: u64,
-    faults: u64,
+    faults: FaultCount,
 }
 
 impl Model for CallPlan {
@@ -28,7 +29,7 @@ impl CallPlan {
         CallPlan {
             failing,
             calls: 0,
-            faults: 0,
+            faults: FaultCount::new(),
         }
     }
 
@@ -52,8 +53,7 @@ impl CallPlan {
         ensures never_falls { self.old.faults ≤ self.new.faults }
         ensures rose { Rose self.old.faults self.new.faults }
     {
-        self.faults = self.faults.saturating_add(1);
-        Failed
+        self.faults.rise()
     }
 
     fn next_fails(&mut self) -> bool

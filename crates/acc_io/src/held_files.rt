@@ -1,5 +1,5 @@
-ghost use Rattle.std.specs.Prelude.{◌≡◌, ◌++◌, length, take, drop, min};
-ghost use Rattle.acc_io.specs.Held.{file_of};
+ghost use Rattle.std.specs.Prelude.{◌≡◌, ◌++◌, length, take, drop, min, false, IsTrue};
+ghost use Rattle.acc_io.specs.Held.{file_of, Selects};
 ghost use Rattle.acc_io.specs.Files.{files_of};
 ghost use Rattle.acc_io.specs.Views.{selection};
 
@@ -40,15 +40,24 @@ impl HeldFiles {
     /// Selects the first file of that name, or none where there is none, and answers whether there is one.
     pub(crate) fn select(&mut self, name: &str) -> bool
         ensures selected { self.new.selected ≡ result }
-        ensures files { self.new ≡ selection self.old.held.files (file_of self.old.held.files name.now) }
+        ensures found { IsTrue result → Selects (Some self.old.held) (Some self.new.held) name.now }
+        ensures after { self.new ≡ selection self.old.held.files (file_of self.old.held.files name.now) }
     {
         self.place = first_of(self.files.as_slice(), name);
         self.place.is_some()
     }
 
+    /// Selects no file.
+    pub(crate) fn unselect(&mut self)
+        ensures { self.new ≡ selection self.old.held.files None }
+    {
+        self.place = None;
+    }
+
     /// Reads from the selected file into the front of `buf`, at most `piece` bytes, and answers how many.
     pub(crate) fn read(&mut self, buf: &mut [u8], piece: usize) -> usize
         ensures count { result ≡ min piece (min (length buf.old) (length self.old.held.left)) }
+        ensures nothing { self.old.selected ≡ false → result ≡ 0 }
         ensures moved { self.old.held.left ≡ take result buf.new ++ self.new.held.left }
         ensures buffer { buf.new ≡ take result self.old.held.left ++ drop result buf.old }
         ensures after { self.new ≡ record self.old {

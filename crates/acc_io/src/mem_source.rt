@@ -5,32 +5,31 @@ ghost use Rattle.acc_io.specs.Plan.{FailsNext, planned, called, faulted};
 
 use crate::call_plan::CallPlan;
 use crate::failed::Failed;
-use crate::pieces::copy_front;
+use crate::held_bytes::HeldBytes;
 use crate::source::Source;
 use std::marker::Model;
 
 /// A source that holds its bytes, and fails at the calls that it was told to.
 #[derive(Drop)]
 pub struct MemSource {
-    bytes: Vec<u8>,
-    at: usize,
+    bytes: HeldBytes,
     piece: usize,
     plan: CallPlan,
 }
 
 impl Model for MemSource {
-    ghost use Rattle.std.specs.Prelude.{◌<◌, ◌≤◌, drop, length};
+    ghost use Rattle.std.specs.Prelude.{◌<◌};
     ghost use Rattle.acc_io.specs.Views.{SourceView};
 
     ghost Value = { SourceView };
 
     ghost view = { λ source. record {
-      left = drop source.at source.bytes.items;
+      left = source.bytes;
       piece = source.piece;
       plan = source.plan;
     } };
 
-    ghost invariant = { λ source. (source.at ≤ length source.bytes.items) × (0 < source.piece) };
+    ghost invariant = { λ source. 0 < source.piece };
 }
 
 impl MemSource {
@@ -41,8 +40,7 @@ impl MemSource {
         ensures { result ≡ record { left = bytes.items; piece = piece; plan = planned failing.items } }
     {
         MemSource {
-            bytes,
-            at: 0,
+            bytes: HeldBytes::new(bytes),
             piece,
             plan: CallPlan::new(failing),
         }
@@ -77,8 +75,6 @@ impl Source for MemSource {
         ensures after_failed { OnErr result (self.new ≡ record self.old { plan = faulted (called self.old.plan) }) }
     {
         self.plan.call()?;
-        let n = copy_front(&self.bytes[self.at..], buf, self.piece);
-        self.at += n;
-        Ok(n)
+        Ok(self.bytes.read(buf, self.piece))
     }
 }

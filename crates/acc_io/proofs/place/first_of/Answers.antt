@@ -1,4 +1,4 @@
-use Rattle.std.proofs.Common.{◌≡◌, ◌<◌, ◌≤◌, ◌∙◌, length, drop, refl, sym, arith}
+use Rattle.std.proofs.Common.{◌∙◌, refl, sym, arith}
 use Rattle.acc_io.proofs.FilesLemmas.{file_of-pass, file_of-here, file_of-end}
 use Rattle.acc_io.proofs.place.first_of.Goals as goal
 
