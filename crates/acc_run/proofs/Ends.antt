@@ -12,7 +12,7 @@ use Rattle.acc_run.specs.Program.{Form, IsUnit, plus_term, spelling, longest_uni
 use Rattle.acc_run.specs.Meaning.{Outcome, sum_from, with_sum, place_behind, meaning_of}
 use Rattle.acc_run.specs.Job.{Run, job_of}
 use Rattle.acc_run.specs.Loading.{ReadsFile}
-use Rattle.acc_run.specs.Answer.{Seen, HasUnit, Becomes, Comes, refusal}
+use Rattle.acc_run.specs.Answer.{Seen, HasUnit, Becomes, Comes, IsDue}
 use Rattle.acc_run.proofs.Whole.{one_form}
 
 -- an end that comes of a unit, accepted or not
@@ -75,7 +75,7 @@ module _ (words : List (List ℕ)) (shelf : Seen Held) (file unit : List ℕ) (j
   comes_of_unit OutOfBytes becomes memory = (file, unit, job, has, becomes (λ e. cc))
   comes_of_unit ReadFault becomes memory = (file, unit, job, has, becomes (λ e. cc))
   comes_of_unit (Refused reason place) becomes memory = (file, unit, job, has, becomes (λ e. cc))
-  comes_of_unit Printed becomes memory = (file, unit, job, has, becomes (λ e. cc))
+  comes_of_unit Printed becomes memory = absurd (becomes_ends unit _ (becomes (λ e. cc)))
 
 memory_or_not : (ended : Ended) → (ended ≡ Memory) ⊎ (ended ≢ Memory)
 memory_or_not Memory = inl refl
@@ -92,17 +92,18 @@ memory_or_not ReadFault = inr (λ e. cc)
 memory_or_not (Refused reason place) = inr (λ e. cc)
 memory_or_not Printed = inr (λ e. cc)
 
--- where the shelf tells the file, what was found is what comes of it
-pub found_of_unit : (told : Option Held) (file unit bytes : List ℕ) (held : Held) (outcome found : Outcome) → told ≡ Some held → file_of held.files file ≡ Some unit →
-    IfSome told (λ held. (unit : List ℕ) × (file_of held.files file ≡ Some unit) × ReadsFile unit bytes) → Becomes unit outcome →
-    (found.ended ≢ Memory → Becomes bytes found) → (found.ended ≡ outcome.ended) × (found.output ≡ outcome.output) ⊎ (found.ended ≡ Memory)
-found_of_unit told file unit bytes held outcome found tells has read becomes finds =
-    elim (memory_or_not found.ended) [ inl memory ↦ inr memory | inr not_memory ↦ inl (same_outcome not_memory) ]
+-- where the shelf tells the file, what was found is what is due
+pub found_is_due : (told : Option Held) (file bytes : List ℕ) (outcome found : Outcome) → IsDue (Some (Run file)) told outcome →
+    IfSome told (λ held. (unit : List ℕ) × (file_of held.files file ≡ Some unit) × ReadsFile unit bytes) →
+    (found.ended ≢ Memory → Becomes bytes found) → (found.ended ≡ Memory → found.output ≡ []) →
+    (found.ended ≡ outcome.ended) × (found.output ≡ outcome.output) ⊎ (found.ended ≡ Memory) × (found.output ≡ [])
+found_is_due told file bytes outcome found due read finds empty =
+    elim (memory_or_not found.ended) [ inl memory ↦ inr (memory, empty memory) | inr not_memory ↦ inl (same_outcome not_memory) ]
   where
-    given : (unit : List ℕ) × (file_of held.files file ≡ Some unit) × ReadsFile unit bytes
-    given = subst (λ t. IfSome t (λ held. (unit : List ℕ) × (file_of held.files file ≡ Some unit) × ReadsFile unit bytes)) tells read
+    given : (unit : List ℕ) × (file_of due.0.files file ≡ Some unit) × ReadsFile unit bytes
+    given = subst (λ t. IfSome t (λ held. (unit : List ℕ) × (file_of held.files file ≡ Some unit) × ReadsFile unit bytes)) due.2 read
     same_outcome : found.ended ≢ Memory → (found.ended ≡ outcome.ended) × (found.output ≡ outcome.output)
     same_outcome not_memory =
-        let same : given.0 ≡ unit = some_injective (sym given.1 ∙ has) in
-        let whole = one_outcome unit found outcome (subst (λ u. Becomes u found) same (becomes_file given.0 bytes found given.2 (finds not_memory))) becomes in
+        let same : given.0 ≡ due.1 = some_injective (sym given.1 ∙ due.3) in
+        let whole = one_outcome due.1 found outcome (subst (λ u. Becomes u found) same (becomes_file given.0 bytes found given.2 (finds not_memory))) due.4 in
         (ap (λ (o : Outcome). o.ended) whole, ap (λ (o : Outcome). o.output) whole)

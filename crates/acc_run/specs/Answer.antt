@@ -1,16 +1,18 @@
 -- What the top call answers, why, and what it writes: by the job of the words, the unit that the shelf gave, its
 -- meaning, and the report.
-use Rattle.std.specs.Prelude.{◌≡◌, ◌⊎◌, ℕ, ◌+◌, ◌≤◌, List, [], length, Option, Some, None, IsSome, IfSome}
+use Rattle.std.specs.Prelude.{◌≡◌, ◌⊎◌, ℕ, ◌+◌, List, [], length, Option, Some, None, IfSome}
+use Rattle.std.specs.List.{flat_map}
 use Rattle.acc_io.specs.Cause.{Rose}
 use Rattle.acc_io.specs.Bytes.{Gains, GainsPart}
 use Rattle.acc_io.specs.Held.{Held, file_of}
 use Rattle.critical_table.specs.declared.refusal.Refusal.TheVariants.{Syntax}
 use Rattle.critical_table.specs.declared.ended.Ended.{Ended}
-use Rattle.critical_table.specs.declared.ended.Ended.TheVariants.{WriteFault, ShelfFault, Refused, Usage, Memory}
+use Rattle.critical_table.specs.declared.ended.Ended.TheVariants.{WriteFault, ShelfFault, Refused, Usage, Printed, Memory}
 use Rattle.critical_table.specs.Report.{report_of}
+use Rattle.critical_table.specs.Table.{table_lines}
 use Rattle.acc_run.specs.Program.{Form, IsUnit}
 use Rattle.acc_run.specs.Meaning.{Outcome, meaning_of}
-use Rattle.acc_run.specs.Job.{Job, Run, job_of}
+use Rattle.acc_run.specs.Job.{Job, Run, Table, job_of}
 
 -- An object of the outside before and after a call: the count of its faults, and what it tells, if it does.
 pub record Seen (T : Type 0) : Type 0 where
@@ -44,11 +46,16 @@ Becomes unit outcome =
     ((form : Form) × IsUnit form unit × (outcome ≡ meaning_of form))
     ⊎ (((form : Form) → IsUnit form unit → ⊥) × (outcome ≡ refusal))
 
+-- the table of cases and codes, line after line
+abbrev pub table_text : List ℕ
+table_text = flat_map (λ line. line) table_lines
+
 -- Why an end comes, with what is written to the output. Want of memory may come at any time.
 abbrev pub Comes : List (List ℕ) → Seen Held → Ended → List ℕ → Type 0
 Comes words shelf Usage output = (job_of words ≡ None) × (output ≡ [])
-Comes words shelf ShelfFault output = IsSome (job_of words) × HasFailed shelf × (output ≡ [])
+Comes words shelf ShelfFault output = (file : List ℕ) × (job_of words ≡ Some (Run file)) × HasFailed shelf × (output ≡ [])
 Comes words shelf Memory output = output ≡ []
+Comes words shelf Printed output = (job_of words ≡ Some Table) × (output ≡ table_text)
 Comes words shelf WriteFault output = ⊥
 Comes words shelf ended output =
     (file unit : List ℕ) × (job_of words ≡ Some (Run file)) × HasUnit shelf.before file unit
@@ -66,11 +73,17 @@ Answers words shelf out err ended =
     × ((output : List ℕ) × Comes words shelf ended output
       × Gains out.before out.after output × Gains err.before err.after (report_of ended))
 
--- Over a shelf that doesn't fail and tells its files, the named one among them, and sinks with room for 200 bytes more
--- than the text, the answer is what becomes of the unit, unless memory ran out.
-abbrev pub IsComplete : List (List ℕ) → Type 0 → Option Held → (ℕ → Type 0) → (ℕ → Type 0) → Ended → Type 0
-IsComplete words shelf_is_sound told out_has_room err_has_room answer =
-    (file unit : List ℕ) (held : Held) (outcome : Outcome) →
-    job_of words ≡ Some (Run file) → told ≡ Some held → file_of held.files file ≡ Some unit → Becomes unit outcome →
+-- What is due to a job, where a shelf tells the file.
+abbrev pub IsDue : Option Job → Option Held → Outcome → Type 0
+IsDue None told outcome = outcome ≡ record { ended = Usage; output = [] }
+IsDue (Some Table) told outcome = outcome ≡ record { ended = Printed; output = table_text }
+IsDue (Some (Run file)) told outcome =
+    (held : Held) × (unit : List ℕ) × (told ≡ Some held) × (file_of held.files file ≡ Some unit) × Becomes unit outcome
+
+-- Over a shelf that doesn't fail, and sinks with room for 200 bytes more than the text, the answer is what is due,
+-- unless memory ran out.
+abbrev pub IsComplete : List (List ℕ) → Option Held → Type 0 → (ℕ → Type 0) → (ℕ → Type 0) → Ended → Type 0
+IsComplete words told shelf_is_sound out_has_room err_has_room answer =
+    (outcome : Outcome) → IsDue (job_of words) told outcome →
     shelf_is_sound → out_has_room (length outcome.output + 200) → err_has_room 200 →
     (answer ≡ outcome.ended) ⊎ (answer ≡ Memory)

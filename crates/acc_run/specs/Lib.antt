@@ -6,3 +6,4 @@ pub mod Job
 pub mod Loading
 pub mod Asked
 pub mod Answer
+pub mod Steps

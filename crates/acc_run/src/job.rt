@@ -1,6 +1,7 @@
-ghost use Rattle.std.specs.Prelude.{◌≡◌, ℕ, List};
+ghost use Rattle.std.specs.Prelude.{◌≡◌, ℕ, List, ◌&&◌, not, Some, None, codes, if◌then◌else◌};
+ghost use Rattle.std.specs.Str.{bytes_eq};
 ghost use Rattle.std.specs.Option.{option_map};
-ghost use Rattle.acc_run.specs.Job.{job_of as the_job, is_option as is_an_option};
+ghost use Rattle.acc_run.specs.Job.{Run, Table, job_of as the_job, is_option as is_an_option};
 ghost use Rattle.acc_run.specs.Asked.{asked};
 
 use crate::words::Words;
@@ -10,6 +11,8 @@ use crate::words::Words;
 pub enum Job<'a> {
     /// Runs the unit in this file.
     Run(&'a str),
+    /// Writes the table of cases and codes.
+    Table,
 }
 
 /// A word that is no file's name: it begins with `-`, and is longer than that.
@@ -23,13 +26,30 @@ fn is_option(word: &str) -> bool
 pub fn job_of(words: &Words) -> Option<Job<'_>>
     ensures { option_map asked result ≡ the_job words.now }
 {
-    if words.len() != 3 {
-        return None;
+    match words.len() {
+        2 => table_job(words.get(1)?),
+        3 => run_job(words.get(1)?, words.get(2)?),
+        _ => None,
     }
-    let command = words.get(1)?;
-    let file = words.get(2)?;
-    if command != "run" || is_option(file) {
-        return None;
+}
+
+fn table_job(command: &str) -> Option<Job<'static>>
+    ensures { option_map asked result ≡ (if bytes_eq command.now (codes "table") then Some Table else None) }
+{
+    if command == "table" {
+        Some(Job::Table)
+    } else {
+        None
     }
-    Some(Job::Run(file))
+}
+
+fn run_job<'a>(command: &str, file: &'a str) -> Option<Job<'a>>
+    ensures { option_map asked result
+        ≡ (if bytes_eq command.now (codes "run") && not (is_an_option file.now) then Some (Run file.now) else None) }
+{
+    if command == "run" && !is_option(file) {
+        Some(Job::Run(file))
+    } else {
+        None
+    }
 }

@@ -1,7 +1,7 @@
 use Rattle.std.proofs.Common.{sym}
 use Rattle.acc_run.specs.Answer.{seen}
-use Rattle.acc_run.proofs.Ends.{given_unit, becomes_file, comes_of_unit, found_of_unit}
-use Rattle.acc_run.proofs.due.due_of_file.Goals as goal
+use Rattle.acc_run.proofs.Ends.{given_unit, becomes_file, comes_of_unit, found_is_due}
+use Rattle.acc_run.proofs.running.due_of_file.Goals as goal
 
 pub returns-in-Ok-clause-comes : goal.returns-in-Ok-clause-comes
 returns-in-Ok-clause-comes g c words job =
@@ -10,7 +10,7 @@ returns-in-Ok-clause-comes g c words job =
       (λ not_memory. becomes_file given.0 c.in-Ok.unit.items _ given.2 (rw (sym c.deref.ensures.value) (c.due_of_unit.ensures.becomes not_memory))) c.due_of_unit.ensures.memory
 
 pub returns-in-Ok-clause-complete : goal.returns-in-Ok-clause-complete
-returns-in-Ok-clause-complete g c unit held outcome told has becomes sound =
-    found_of_unit (g.S.Shelf.told c.args.shelf.now) c.args.file.now unit c.in-Ok.unit.items held outcome
-      (record { ended = c.due_of_unit.result.ended; output = c.due_of_unit.result.output.items }) told has c.in-Ok.ensures.read becomes
-      (λ not_memory. rw (sym c.deref.ensures.value) (c.due_of_unit.ensures.becomes not_memory))
+returns-in-Ok-clause-complete g c outcome due sound =
+    found_is_due (g.S.Shelf.told c.args.shelf.now) c.args.file.now c.in-Ok.unit.items outcome
+      (record { ended = c.due_of_unit.result.ended; output = c.due_of_unit.result.output.items }) due c.in-Ok.ensures.read
+      (λ not_memory. rw (sym c.deref.ensures.value) (c.due_of_unit.ensures.becomes not_memory)) c.due_of_unit.ensures.memory
