@@ -24,6 +24,7 @@ called plan = record plan { calls = counted plan.calls }
 abbrev pub faulted : Plan → Plan
 faulted plan = record plan { faults = counted plan.faults }
 
--- The next call is one of those that fail.
+-- The next call is one of those that fail. Where the count of calls stands at its last value, the next number is past
+-- all that a list of 64-bit numbers can have.
 abbrev pub FailsNext : Plan → Type 0
 FailsNext plan = Contains plan.failing (plan.calls + 1)

@@ -1,5 +1,5 @@
 -- What contracts see of a source, a sink and a shelf in memory.
-use Rattle.std.specs.Prelude.{ℕ, List, [], Bool, true, false, Option, Some, None}
+use Rattle.std.specs.Prelude.{◌≡◌, ℕ, ◌<◌, ◌≤◌, List, [], length, Bool, true, false, Option, Some, None, Vec, vec_capacity}
 use Rattle.acc_io.specs.Plan.{Plan}
 use Rattle.acc_io.specs.Held.{File, Held}
 
@@ -20,6 +20,14 @@ pub record SinkView : Type 0 where
   pub room : ℕ
   pub piece : ℕ
   pub plan : Plan
+
+-- What is true of every sink in memory. All its room was reserved. A fault that is not in its plan comes only where
+-- the room is used up.
+pub record KeepsRoom {Z : Type 0} (bytes : Vec ℕ Z) (room piece : ℕ) (plan : Plan) : Type 0 where
+  pub within : length bytes.items ≤ room
+  pub reserved : room ≤ vec_capacity bytes
+  pub moves : 0 < piece
+  pub sure : plan.failing ≡ [] → length bytes.items < room → plan.faults ≡ 0
 
 -- held: the files, and what is left of the selected one; selected: whether one is selected
 pub record ShelfView : Type 0 where

@@ -2,6 +2,10 @@
 //!
 //! Each object counts its faults. A call fails only where that count rose, so a caller that reports a fault
 //! without one is refused. Where an object tells its bytes, contracts say which bytes a call moves.
+//!
+//! The forms in memory (`MemSource`, `SoundSource`, `MemSink`, `MemShelf`, `SoundShelf`) tell all that they hold, and
+//! exactly which calls fail. The adapters (`ReadSource`, `WriteSink`, `FileShelf`) stand over real readers, writers and
+//! files, and tell no content.
 #![tactic(auto)]
 
 mod call_plan;

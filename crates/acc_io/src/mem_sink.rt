@@ -19,8 +19,7 @@ pub struct MemSink {
 }
 
 impl Model for MemSink {
-    ghost use Rattle.std.specs.Prelude.{◌≡◌, ◌<◌, ◌≤◌, [], length, vec_capacity};
-    ghost use Rattle.acc_io.specs.Views.{SinkView};
+    ghost use Rattle.acc_io.specs.Views.{SinkView, KeepsRoom};
 
     ghost Value = { SinkView };
 
@@ -31,10 +30,7 @@ impl Model for MemSink {
       plan = sink.plan;
     } };
 
-    // All the room was reserved. A fault that is not in the plan comes only where the room is used up.
-    ghost invariant = { λ sink. (length sink.bytes.items ≤ sink.room) × (sink.room ≤ vec_capacity sink.bytes)
-        × (0 < sink.piece)
-        × (sink.plan.failing ≡ [] → length sink.bytes.items < sink.room → sink.plan.faults ≡ 0) };
+    ghost invariant = { λ sink. KeepsRoom sink.bytes sink.room sink.piece sink.plan };
 }
 
 impl MemSink {
@@ -62,6 +58,7 @@ impl MemSink {
     /// The bytes that were written.
     pub fn bytes(&self) -> &[u8]
         ensures bytes { result.now ≡ self.now.written }
+        ensures within { length self.now.written ≤ self.now.room }
         ensures sure { self.now.plan.failing ≡ [] → length self.now.written < self.now.room
             → self.now.plan.faults ≡ 0 }
     {

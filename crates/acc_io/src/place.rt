@@ -4,7 +4,7 @@ ghost use Rattle.acc_io.specs.Held.{file_of};
 ghost use Rattle.acc_io.specs.Files.{files_of, left_of, IsPlaceIn};
 
 /// A place in one of a list of files.
-#[derive(Clone, Copy)]
+#[derive(Clone, Copy, Debug, PartialEq, Eq)]
 pub(crate) struct Place {
     pub(crate) file: usize,
     pub(crate) at: usize,
