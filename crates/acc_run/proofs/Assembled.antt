@@ -66,7 +66,6 @@ module _ (words : List (List ℕ)) (shelf : Seen Held) where
   reported out err Printed not_fault done sound gains = (done.0, sound, (done.1.0, done.1.1, done.1.2, gains))
   reported out err Memory not_fault done sound gains = (done.0, sound, (done.1.0, done.1.1, done.1.2, gains))
 
-
 -- an output before the command, after it and after the report; an error output before the report and after it
 pub record Course : Type 0 where
   pub out_0 : ℕ
@@ -94,6 +93,24 @@ module _ (words : List (List ℕ)) (shelf : Seen Held) (c : Course) where
   report = record { faults_before = c.err_0; faults_after = c.err_1; before = c.text_0; after = c.text_1 }
 
   pub answers : (ended answer : Ended) → c.out_1 ≤ c.out_2 → Performs words shelf command ended → Reports flushed report ended answer → Answers words shelf whole report answer
-  answers ended answer later performs (same, inl stopped) = ?
-  answers ended answer later performs (same, inr (inl told)) = ?
-  answers ended answer later performs (same, inr (inr failed)) = ?
+  answers ended answer later performs (same, inl stopped) =
+      let fault = subst (Performs words shelf command) stopped.0 performs in
+      subst (Answers words shelf whole report) (sym stopped.1) (
+        inl (rose_on c.out_0 c.out_1 c.out_2 fault.0 later),
+        (
+          fault.1.0,
+          fault.1.1,
+          fault.1.2,
+          subst (λ now. GainsPart c.output_0 now fault.1.1) (sym same) fault.1.3,
+          subst (λ now. GainsPart c.text_0 now (report_of fault.1.0)) (sym stopped.4) (nothing_written c.text_0 (report_of fault.1.0)),
+        ),
+      )
+  answers ended answer later performs (same, inr (inl told)) =
+      let done = performed words shelf command ended told.0 performs in
+      subst (Answers words shelf whole report) (sym told.1)
+      (reported words shelf whole report ended told.0 (told.2 ∙ done.0, (done.1.0, done.1.1, subst (λ now. Gains c.output_0 now done.1.0) (sym same) done.1.2)) told.3 told.4)
+  answers ended answer later performs (same, inr (inr failed)) =
+      let done = performed words shelf command ended failed.0 performs in
+      let cause : HasFailed whole ⊎ HasFailed report = elim failed.2 [ inl rose ↦ inl (subst (λ n. Rose n c.out_2) done.0 rose) | inr rose ↦ inr rose ] in
+      subst (Answers words shelf whole report) (sym failed.1)
+      (cause, (ended, done.1.0, done.1.1, all_written c.output_0 c.output_2 done.1.0 (subst (λ now. Gains c.output_0 now done.1.0) (sym same) done.1.2), failed.3))

@@ -102,6 +102,7 @@ found_is_due told file bytes outcome found due read finds empty =
   where
     given : (unit : List ℕ) × (file_of due.0.files file ≡ Some unit) × ReadsFile unit bytes
     given = subst (λ t. IfSome t (λ held. (unit : List ℕ) × (file_of held.files file ≡ Some unit) × ReadsFile unit bytes)) due.2 read
+
     same_outcome : found.ended ≢ Memory → (found.ended ≡ outcome.ended) × (found.output ≡ outcome.output)
     same_outcome not_memory =
         let same : given.0 ≡ due.1 = some_injective (sym given.1 ∙ due.3) in

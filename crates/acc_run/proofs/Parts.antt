@@ -21,7 +21,7 @@ part_more before mid now bytes more rest all first part whole =
     let n = part.0 in
     let fits : length bytes + n ≤ length all = omega (arith, ap length whole, length-append bytes (more ++ rest), length-append more rest) in
     let front : bytes ++ take n more ≡ take (length bytes + n) all =
-        ap (λ text. bytes ++ text) (sym (take-append-le n more rest part.1)) ∙ (sym (take-append-add bytes (more ++ rest) n) ∙ ap (take (length bytes + n)) whole) in
+    ap (λ text. bytes ++ text) (sym (take-append-le n more rest part.1)) ∙ (sym (take-append-add bytes (more ++ rest) n) ∙ ap (take (length bytes + n)) whole) in
     (length bytes + n, fits, written_more before mid now bytes (take n more) first part.2 ∙ ap (λ text. option_map (λ written. written ++ text) before) front)
 
 -- what holds anyway holds of a failure

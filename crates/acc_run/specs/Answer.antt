@@ -67,11 +67,11 @@ abbrev pub Answers : List (List ℕ) → Seen Held → Seen (List ℕ) → Seen 
 Answers words shelf out err WriteFault =
     (HasFailed out ⊎ HasFailed err)
     × ((due : Ended) × (output : List ℕ) × Comes words shelf due output
-      × GainsPart out.before out.after output × GainsPart err.before err.after (report_of due))
+    × GainsPart out.before out.after output × GainsPart err.before err.after (report_of due))
 Answers words shelf out err ended =
     IsSound out × IsSound err
     × ((output : List ℕ) × Comes words shelf ended output
-      × Gains out.before out.after output × Gains err.before err.after (report_of ended))
+    × Gains out.before out.after output × Gains err.before err.after (report_of ended))
 
 -- What is due to a job, where a shelf tells the file.
 abbrev pub IsDue : Option Job → Option Held → Outcome → Type 0

@@ -26,5 +26,5 @@ abbrev pub Reports : Seen (List ℕ) → Seen (List ℕ) → Ended → Ended →
 Reports out err ended answer =
     (out.after ≡ out.before)
     × (((ended ≡ WriteFault) × (answer ≡ WriteFault) × IsSound out × IsSound err × (err.after ≡ err.before))
-      ⊎ (((ended ≢ WriteFault) × (answer ≡ ended) × IsSound out × IsSound err × Gains err.before err.after (report_of ended))
-      ⊎ ((ended ≢ WriteFault) × (answer ≡ WriteFault) × (HasFailed out ⊎ HasFailed err) × GainsPart err.before err.after (report_of ended))))
+    ⊎ (((ended ≢ WriteFault) × (answer ≡ ended) × IsSound out × IsSound err × Gains err.before err.after (report_of ended))
+    ⊎ ((ended ≢ WriteFault) × (answer ≡ WriteFault) × (HasFailed out ⊎ HasFailed err) × GainsPart err.before err.after (report_of ended))))

@@ -7,10 +7,10 @@ ghost use Rattle.acc_run.specs.Meaning.{Outcome};
 ghost use Rattle.acc_run.specs.Answer.{Answers, IsComplete, IsDue, seen};
 ghost use Rattle.acc_run.specs.Steps.{Performs};
 
+use crate::case_table::table;
 use crate::job::{Job, job_of};
 use crate::reporting::report;
 use crate::running::run;
-use crate::case_table::table;
 use crate::words::Words;
 use acc_io::{Shelf, Sink, Source, Streams};
 use critical_table::Ended;

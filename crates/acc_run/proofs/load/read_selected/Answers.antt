@@ -15,7 +15,7 @@ pub returns-then-branch-eq0-clause-read : goal.returns-then-branch-eq0-clause-re
 returns-then-branch-eq0-clause-read g c =
     let gained = c.in_ok-read_piece.ensures.gained in
     read_to_end (g.S.Shelf.told c.args.shelf.now) (g.S.Shelf.told c.loop-shelf.shelf) c.loop-shelf.bytes.items gained.0 c.read_piece.new.bytes.items
-      c.loop-shelf.invariant.so_far (c.in_ok-read_piece.ensures.end c.if-branch-eq0.true) (gained.1 ∙ c.if-branch-eq0.true) gained.2
+    c.loop-shelf.invariant.so_far (c.in_ok-read_piece.ensures.end c.if-branch-eq0.true) (gained.1 ∙ c.if-branch-eq0.true) gained.2
 
 pub returns-clause-read : goal.returns-clause-read
 returns-clause-read g c =

@@ -13,5 +13,5 @@ invariant-loop-summand l = record {
   total : InRange I32 l.total;
   column : l.column ≡ l.fn.column + length (flat_map plus_term (take l.summand-index l.rest));
   rest : (start : List ℕ) → length start + 1 ≡ l.fn.column →
-    sum_from (start ++ flat_map plus_term (take l.summand-index l.rest)) l.total (drop l.summand-index l.rest) ≡ sum_from start (pos l.first) l.rest;
+      sum_from (start ++ flat_map plus_term (take l.summand-index l.rest)) l.total (drop l.summand-index l.rest) ≡ sum_from start (pos l.first) l.rest;
 }

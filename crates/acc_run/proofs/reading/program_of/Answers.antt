@@ -11,28 +11,28 @@ returns-in_default-clause-none c form unit = has_head form c.args.bytes.now unit
 pub returns-in_default-strip-clause-none : goal.returns-in_default-strip-clause-none
 returns-in_default-strip-clause-none c form unit =
     c.in_default-strip.ensures.none (sum_text form) (behind_calls form c.args.bytes.now unit c.in-Some.rest.now c.in_ok-outputs.rest.now c.in_ok-outputs.outputs.items
-      c.in-Some.ensures.found c.in_ok-outputs.ensures.spelled c.in_ok-outputs.ensures.fit c.in_ok-outputs.ensures.all).1
+    c.in-Some.ensures.found c.in_ok-outputs.ensures.spelled c.in_ok-outputs.ensures.fit c.in_ok-outputs.ensures.all).1
 
 pub returns-in_default-constant-clause-none : goal.returns-in_default-constant-clause-none
 returns-in_default-constant-clause-none c form unit =
     let calls = behind_calls form c.args.bytes.now unit c.in-Some.rest.now c.in_ok-outputs.rest.now c.in_ok-outputs.outputs.items
-      c.in-Some.ensures.found c.in_ok-outputs.ensures.spelled c.in_ok-outputs.ensures.fit c.in_ok-outputs.ensures.all in
+    c.in-Some.ensures.found c.in_ok-outputs.ensures.spelled c.in_ok-outputs.ensures.fit c.in_ok-outputs.ensures.all in
     let sum : c.in-Some-strip.rest.now ≡ sum_text form = append_cancel_left (codes "return ") _ _ (sym c.in-Some-strip.ensures.found ∙ calls.1) in
     c.in_default-constant.ensures.none form.first (terms_text form) unit.fits.first (term_ends form.rest (codes ";}") refl) sum
 
 pub returns-then-not-is_end-clause-none : goal.returns-then-not-is_end-clause-none
 returns-then-not-is_end-clause-none c form unit =
     let calls = behind_calls form c.args.bytes.now unit c.in-Some.rest.now c.in_ok-outputs.rest.now c.in_ok-outputs.outputs.items
-      c.in-Some.ensures.found c.in_ok-outputs.ensures.spelled c.in_ok-outputs.ensures.fit c.in_ok-outputs.ensures.all in
+    c.in-Some.ensures.found c.in_ok-outputs.ensures.spelled c.in_ok-outputs.ensures.fit c.in_ok-outputs.ensures.all in
     let sum : c.in-Some-strip.rest.now ≡ sum_text form = append_cancel_left (codes "return ") _ _ (sym c.in-Some-strip.ensures.found ∙ calls.1) in
     let first = behind_first form c.args.bytes.now unit c.in-Some-strip.rest.now c.in-Some-constant.rest.now c.in-Some-constant.first sum
-      c.in-Some-constant.ensures.found.0 c.in-Some-constant.ensures.found.1 c.in-Some-constant.ensures.found.2 in
+    c.in-Some-constant.ensures.found.0 c.in-Some-constant.ensures.found.1 c.in-Some-constant.ensures.found.2 in
     let terms = behind_terms form c.args.bytes.now unit c.in-Some-constant.rest.now c.in_ok-summands.rest.now c.in_ok-summands.summands.items first.1
-      c.in_ok-summands.ensures.spelled c.in_ok-summands.ensures.fit c.in_ok-summands.ensures.all.0 c.in_ok-summands.ensures.all.1 in
+    c.in_ok-summands.ensures.spelled c.in_ok-summands.ensures.fit c.in_ok-summands.ensures.all.0 c.in_ok-summands.ensures.all.1 in
     false≢true (c.if-not-is_end.ensures.1 terms.1)
 
 pub returns-clause-found : goal.returns-clause-found
 returns-clause-found c =
     assembled _ c.args.bytes.now c.in-Some.rest.now c.in_ok-outputs.rest.now c.in-Some-strip.rest.now c.in-Some-constant.rest.now c.in_ok-summands.rest.now
-      c.in-Some.ensures.found c.in_ok-outputs.ensures.spelled c.in-Some-strip.ensures.found c.in-Some-constant.ensures.found.0 c.in_ok-summands.ensures.spelled (c.if-not-is_end.ensures.0 refl)
-      c.if-bytes-gt-LONGEST_UNIT.false c.in_ok-outputs.ensures.fit c.in-Some-constant.ensures.found.1 c.in_ok-summands.ensures.fit
+    c.in-Some.ensures.found c.in_ok-outputs.ensures.spelled c.in-Some-strip.ensures.found c.in-Some-constant.ensures.found.0 c.in_ok-summands.ensures.spelled (c.if-not-is_end.ensures.0 refl)
+    c.if-bytes-gt-LONGEST_UNIT.false c.in_ok-outputs.ensures.fit c.in-Some-constant.ensures.found.1 c.in_ok-summands.ensures.fit

@@ -2,7 +2,6 @@ use Rattle.std.proofs.Common.{◌≡◌, ◌≤◌, ◌++◌, length}
 use Rattle.std.specs.List.{flat_map, All}
 use Rattle.acc_run.specs.Program.{greatest_constant, plus_term}
 use Rattle.acc_run.proofs.reading.summands.Given as goal
-
 use Rattle.acc_run.specs.Reading.{EndsNumeral}
 
 abbrev pub invariant-loop-summand : goal.invariant-loop-summand

@@ -7,10 +7,10 @@ pub returns-in-Ok-clause-comes : goal.returns-in-Ok-clause-comes
 returns-in-Ok-clause-comes g c words job =
     let given = given_unit (g.S.Shelf.told c.args.shelf.now) c.args.file.now c.in-Ok.unit.items c.in-Ok.ensures.read in
     comes_of_unit words (seen g.S.Shelf.faults g.S.Shelf.told c.args.shelf.now c.read_file.new.shelf) c.args.file.now given.0 job given.1 c.due_of_unit.result.output.items c.due_of_unit.result.ended
-      (λ not_memory. becomes_file given.0 c.in-Ok.unit.items _ given.2 (rw (sym c.deref.ensures.value) (c.due_of_unit.ensures.becomes not_memory))) c.due_of_unit.ensures.memory
+    (λ not_memory. becomes_file given.0 c.in-Ok.unit.items _ given.2 (rw (sym c.deref.ensures.value) (c.due_of_unit.ensures.becomes not_memory))) c.due_of_unit.ensures.memory
 
 pub returns-in-Ok-clause-complete : goal.returns-in-Ok-clause-complete
 returns-in-Ok-clause-complete g c outcome due sound =
     found_is_due (g.S.Shelf.told c.args.shelf.now) c.args.file.now c.in-Ok.unit.items outcome
-      (record { ended = c.due_of_unit.result.ended; output = c.due_of_unit.result.output.items }) due c.in-Ok.ensures.read
-      (λ not_memory. rw (sym c.deref.ensures.value) (c.due_of_unit.ensures.becomes not_memory)) c.due_of_unit.ensures.memory
+    (record { ended = c.due_of_unit.result.ended; output = c.due_of_unit.result.output.items }) due c.in-Ok.ensures.read
+    (λ not_memory. rw (sym c.deref.ensures.value) (c.due_of_unit.ensures.becomes not_memory)) c.due_of_unit.ensures.memory
