@@ -15,3 +15,6 @@ pub mod words;
 pub use case_table::table;
 pub use top::acc_main;
 pub use words::Words;
+
+#[cfg(test)]
+mod tests;

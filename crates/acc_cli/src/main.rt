@@ -1,0 +1,39 @@
+//! `acc`: does what the words of its command line ask for. All that matters is in `acc_main`.
+#![tactic(auto)]
+
+use acc_io::{FileShelf, MemSource, Streams, WriteSink};
+use acc_run::{Words, acc_main};
+use critical_table::{Ended, status_of};
+use std::alloc::AllocError;
+use std::env;
+use std::io;
+use std::process::ExitCode;
+
+/// The words of the command line; none where one of them is not UTF-8, which no command takes.
+fn command_line(rt: &HostRuntime) -> Result<Words, AllocError> {
+    let mut words = Words::new(rt.alloc())?;
+    match env::args(rt) {
+        Ok(arguments) => {
+            for argument in arguments {
+                words.push(argument.as_str())?;
+            }
+            Ok(words)
+        }
+        Err(error) if error.kind() == io::ErrorKind::OutOfMemory => Err(AllocError),
+        Err(_) => Ok(words),
+    }
+}
+
+fn main(rt: HostRuntime) -> ExitCode {
+    let Ok(words) = command_line(&rt) else {
+        return ExitCode::from(status_of(&Ended::Memory));
+    };
+    let mut shelf = FileShelf::new(&rt);
+    let streams = Streams {
+        input: MemSource::new(Vec::new(rt.alloc()), 1, Vec::new(rt.alloc())),
+        out: WriteSink::new(rt.stdout()),
+        err: WriteSink::new(rt.stderr()),
+    };
+    let (ended, _streams) = acc_main(rt.alloc(), &words, &mut shelf, streams);
+    ExitCode::from(status_of(&ended))
+}
