@@ -1,0 +1,69 @@
+-- Sizes, alignments, and the places of members (6.2.5, 6.2.6, 6.2.8, 6.7.2.1).
+use Rattle.std.specs.Prelude.{ℕ, ◌+◌, ◌*◌, ◌/◌, max, Bool, List, [], ◌∷◌, ◌++◌, Option, Some, None, option_map, option_and_then, slice_get, nat_le, nat_lt, if◌then◌else◌}
+use Rattle.std.specs.Int.{next_multiple_of}
+use Rattle.acc_num.specs.declared.kind.IntKind.{IntKind}
+use Rattle.acc_num.specs.declared.kind.IntKind.TheVariants as k
+use Rattle.c_types.specs.declared.basic.Basic.{Basic}
+use Rattle.c_types.specs.declared.basic.Basic.TheVariants as b
+use Rattle.c_types.specs.declared.member.Member.{Member}
+use Rattle.c_types.specs.declared.layout.Layout.{Layout}
+use Rattle.c_types.specs.declared.fault.LayoutFault.{LayoutFault}
+use Rattle.c_types.specs.declared.fault.LayoutFault.TheVariants.{Incomplete, TooLarge}
+use Rattle.c_types.specs.declared.shape.TypeId.{TypeId}
+use Rattle.c_types.specs.Types.{CompoundBody, CompoundParts, Types}
+use Rattle.c_types.specs.CType.{CType, Plain, Array, Bare, Basic', Pointer, Function, Compound, Enumerated, type_of}
+
+-- the integer kind of a basic type; `void` has none (6.2.5p4 to p7; `char` is signed, 6.2.5p15)
+abbrev pub kind_of : Basic → Option IntKind
+kind_of b.Void = None
+kind_of b.Bool = Some k.Bool
+kind_of b.Char = Some k.I8
+kind_of b.SChar = Some k.I8
+kind_of b.UChar = Some k.U8
+kind_of b.Short = Some k.I16
+kind_of b.UShort = Some k.U16
+kind_of b.Int = Some k.I32
+kind_of b.UInt = Some k.U32
+kind_of b.Long = Some k.I64
+kind_of b.ULong = Some k.U64
+kind_of b.LongLong = Some k.I64
+kind_of b.ULongLong = Some k.U64
+
+-- the bytes of a value of a kind (6.2.6.1p4); `_Bool` takes one
+abbrev pub bytes_of : IntKind → ℕ
+bytes_of k.Bool = 1
+bytes_of k.I8 = 1
+bytes_of k.U8 = 1
+bytes_of k.I16 = 2
+bytes_of k.U16 = 2
+bytes_of k.I32 = 4
+bytes_of k.U32 = 4
+bytes_of k.I64 = 8
+bytes_of k.U64 = 8
+
+-- a scalar of these bytes is aligned to its size (6.2.8p1)
+abbrev pub scalar : ℕ → Layout
+scalar bytes = record { size = bytes; align = bytes }
+
+abbrev pub pointer_layout : Layout
+pointer_layout = record { size = 16; align = 8 }
+
+-- an array has its elements one after the other (6.2.5p20)
+abbrev pub repeated : ℕ → Layout → Layout
+repeated n element = record { size = n * element.size; align = element.align }
+
+abbrev mutual
+  -- The layout of a type among these compound types. There is none for `void`, a function type, an incomplete
+  -- compound type and an array without a length (6.2.5p19 to p22).
+  pub layout_of : CType → List CompoundParts → Option Layout
+  layout_of (Plain bare quals) compounds = bare_layout bare compounds
+  layout_of (Array of None) compounds = None
+  layout_of (Array of (Some n)) compounds = option_map (repeated n) (layout_of of compounds)
+
+  pub bare_layout : Bare → List CompoundParts → Option Layout
+  bare_layout (Basic' basic) compounds = option_map (λ kind. scalar (bytes_of kind)) (kind_of basic)
+  bare_layout (Pointer to) compounds = Some pointer_layout
+  bare_layout (Function gives parameters variadic) compounds = None
+  bare_layout (Compound number) compounds =
+      option_and_then (λ parts. option_map (λ (body : CompoundBody). body.layout) parts.body) (slice_get compounds number)
+  bare_layout (Enumerated number) compounds = Some (scalar 4)
