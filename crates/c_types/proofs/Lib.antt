@@ -1,2 +1,4 @@
+pub mod Fresh
 pub mod Grows
+pub mod Showing
 pub mod Sound

@@ -66,3 +66,8 @@ all_types types = grown types.functions [] types.made
 -- the type that an id stands for
 abbrev pub type_of : Types → TypeId → CType
 type_of types id = type_at (all_types types) id
+
+-- the qualifiers of a type; those of an array are its elements' (6.7.3p9)
+abbrev pub quals_of : CType → Quals
+quals_of (Plain bare quals) = quals
+quals_of (Array of len) = quals_of of

@@ -1,5 +1,5 @@
 -- Sizes, alignments, and the places of members (6.2.5, 6.2.6, 6.2.8, 6.7.2.1).
-use Rattle.std.specs.Prelude.{ℕ, ◌+◌, ◌*◌, ◌/◌, max, Bool, List, [], ◌∷◌, ◌++◌, Option, Some, None, option_map, option_and_then, slice_get, nat_le, nat_lt, if◌then◌else◌}
+use Rattle.std.specs.Prelude.{ℕ, ◌+◌, ◌*◌, ◌/◌, max, Bool, List, [], ◌∷◌, ◌++◌, Option, Some, None, option_map, slice_get, nat_le, nat_lt, if◌then◌else◌}
 use Rattle.std.specs.Int.{next_multiple_of}
 use Rattle.acc_num.specs.declared.kind.IntKind.{IntKind}
 use Rattle.acc_num.specs.declared.kind.IntKind.TheVariants as k
@@ -52,6 +52,14 @@ pointer_layout = record { size = 16; align = 8 }
 abbrev pub repeated : ℕ → Layout → Layout
 repeated n element = record { size = n * element.size; align = element.align }
 
+abbrev pub basic_layout : Basic → Option Layout
+basic_layout basic = option_map (λ kind. scalar (bytes_of kind)) (kind_of basic)
+
+-- a complete compound type has the layout that its body was given (6.2.5p22)
+abbrev pub compound_layout : Option CompoundParts → Option Layout
+compound_layout None = None
+compound_layout (Some parts) = option_map (λ (body : CompoundBody). body.layout) parts.body
+
 abbrev mutual
   -- The layout of a type among these compound types. There is none for `void`, a function type, an incomplete
   -- compound type and an array without a length (6.2.5p19 to p22).
@@ -61,9 +69,8 @@ abbrev mutual
   layout_of (Array of (Some n)) compounds = option_map (repeated n) (layout_of of compounds)
 
   pub bare_layout : Bare → List CompoundParts → Option Layout
-  bare_layout (Basic' basic) compounds = option_map (λ kind. scalar (bytes_of kind)) (kind_of basic)
+  bare_layout (Basic' basic) compounds = basic_layout basic
   bare_layout (Pointer to) compounds = Some pointer_layout
   bare_layout (Function gives parameters variadic) compounds = None
-  bare_layout (Compound number) compounds =
-      option_and_then (λ parts. option_map (λ (body : CompoundBody). body.layout) parts.body) (slice_get compounds number)
+  bare_layout (Compound number) compounds = compound_layout (slice_get compounds number)
   bare_layout (Enumerated number) compounds = Some (scalar 4)

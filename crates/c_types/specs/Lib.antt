@@ -1,5 +1,6 @@
 pub mod Types
 pub mod CType
-pub mod Inner
+pub mod Shapes
 pub mod Layouts
 pub mod Making
+pub mod Inner
