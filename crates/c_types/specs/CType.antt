@@ -71,3 +71,8 @@ type_of types id = type_at (all_types types) id
 abbrev pub quals_of : CType → Quals
 quals_of (Plain bare quals) = quals
 quals_of (Array of len) = quals_of of
+
+-- what a type is without its qualifiers; an array counts as none
+abbrev pub bare_of : CType → Bare
+bare_of (Plain bare quals) = bare
+bare_of (Array of len) = Basic' Void

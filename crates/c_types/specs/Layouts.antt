@@ -1,5 +1,5 @@
 -- Sizes, alignments, and the places of members (6.2.5, 6.2.6, 6.2.8, 6.7.2.1).
-use Rattle.std.specs.Prelude.{ℕ, ◌+◌, ◌*◌, ◌/◌, max, Bool, List, [], ◌∷◌, ◌++◌, Option, Some, None, option_map, slice_get, nat_le, nat_lt, if◌then◌else◌}
+use Rattle.std.specs.Prelude.{◌≡◌, ℕ, ◌+◌, ◌*◌, ◌/◌, max, Bool, List, [], ◌∷◌, ◌++◌, Option, Some, None, Result, Ok, Err, option_map, slice_get, nat_le, nat_lt, if◌then◌else◌}
 use Rattle.std.specs.Int.{next_multiple_of}
 use Rattle.acc_num.specs.declared.kind.IntKind.{IntKind}
 use Rattle.acc_num.specs.declared.kind.IntKind.TheVariants as k
@@ -9,6 +9,8 @@ use Rattle.c_types.specs.declared.member.Member.{Member}
 use Rattle.c_types.specs.declared.layout.Layout.{Layout}
 use Rattle.c_types.specs.declared.fault.LayoutFault.{LayoutFault}
 use Rattle.c_types.specs.declared.fault.LayoutFault.TheVariants.{Incomplete, TooLarge}
+use Rattle.c_types.specs.declared.fault.BuildFault.{BuildFault}
+use Rattle.c_types.specs.declared.fault.BuildFault.TheVariants.{Layout as Layout', Memory}
 use Rattle.c_types.specs.declared.shape.TypeId.{TypeId}
 use Rattle.c_types.specs.Types.{CompoundBody, CompoundParts, Types}
 use Rattle.c_types.specs.CType.{CType, Plain, Array, Bare, Basic', Pointer, Function, Compound, Enumerated, type_of}
@@ -74,3 +76,29 @@ abbrev mutual
   bare_layout (Function gives parameters variadic) compounds = None
   bare_layout (Compound number) compounds = compound_layout (slice_get compounds number)
   bare_layout (Enumerated number) compounds = Some (scalar 4)
+
+-- the largest object
+abbrev pub largest : ℕ
+largest = 16777216
+
+-- why an object of this layout can't be had
+abbrev pub layout_fault : Option Layout → Option LayoutFault
+layout_fault None = Some Incomplete
+layout_fault (Some layout) = if nat_le layout.size largest then None else Some TooLarge
+
+-- why there is no array of elements with this layout
+abbrev pub array_fault : Option Layout → Option ℕ → Option LayoutFault
+array_fault None len = Some Incomplete
+array_fault (Some element) None = None
+array_fault (Some element) (Some n) = layout_fault (Some (repeated n element))
+
+-- the layout of an array of that length
+abbrev pub array_layout : Option Layout → Option ℕ → Option Layout
+array_layout element None = None
+array_layout element (Some n) = option_map (repeated n) element
+
+-- A call answers this fault exactly where there is one, or else that memory ran out.
+abbrev pub IsBuilt : {T : Type 0} → Option LayoutFault → Result T BuildFault → Type 0
+IsBuilt fault (Ok made) = fault ≡ None
+IsBuilt fault (Err (Layout' f)) = fault ≡ Some f
+IsBuilt fault (Err (Memory e)) = Unit {0}

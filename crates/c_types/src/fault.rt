@@ -15,8 +15,30 @@ pub enum LayoutFault {
 /// Why a type was not made.
 #[derive(Debug, Drop, Error)]
 pub enum BuildFault {
-    #[error(transparent)]
+    #[error("{0}")]
     Layout(LayoutFault),
-    #[error(transparent)]
-    Memory(#[from] AllocError),
+    #[error("{0}")]
+    Memory(AllocError),
+}
+
+impl From<LayoutFault> for BuildFault {
+    ghost use Rattle.std.specs.Prelude.{◌≡◌};
+    ghost use Rattle.c_types.specs.declared.fault.BuildFault.{BuildFault};
+
+    ghost from_gives = { λ cause fault. fault ≡ BuildFault.Layout cause };
+
+    fn from(cause: LayoutFault) -> BuildFault {
+        BuildFault::Layout(cause)
+    }
+}
+
+impl From<AllocError> for BuildFault {
+    ghost use Rattle.std.specs.Prelude.{◌≡◌};
+    ghost use Rattle.c_types.specs.declared.fault.BuildFault.{BuildFault};
+
+    ghost from_gives = { λ cause fault. fault ≡ BuildFault.Memory cause };
+
+    fn from(cause: AllocError) -> BuildFault {
+        BuildFault::Memory(cause)
+    }
 }

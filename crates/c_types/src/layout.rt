@@ -1,7 +1,9 @@
-ghost use Rattle.std.specs.Prelude.{◌≡◌};
-ghost use Rattle.c_types.specs.Layouts.{kind_of, basic_layout};
+ghost use Rattle.std.specs.Prelude.{◌≡◌, IfOk};
+ghost use Rattle.std.specs.Result.{result_err};
+ghost use Rattle.c_types.specs.Layouts.{kind_of, basic_layout, array_layout, array_fault};
 
 use crate::basic::Basic;
+use crate::fault::LayoutFault;
 use acc_num::IntKind;
 
 /// The size of a type in bytes, and its alignment (6.2.8).
@@ -48,4 +50,31 @@ pub fn basic_layout(basic: Basic) -> Option<Layout>
         IntKind::I64 | IntKind::U64 => 8,
     };
     Some(Layout { size, align: size })
+}
+
+/// The largest object has this many bytes.
+pub const LARGEST: u32 = 16_777_216;
+
+/// The layout of an array of elements with this layout; none without a length.
+///
+/// `Incomplete` comes exactly where the elements have no layout, and else `TooLarge` where the array would have more
+/// than the largest size.
+pub fn array_layout(element: Option<Layout>, length: Option<u64>) -> Result<Option<Layout>, LayoutFault>
+    ensures layout { IfOk result (λ layout. layout ≡ array_layout element length) }
+    ensures fault { array_fault element length ≡ result_err result }
+{
+    let Some(element) = element else {
+        return Err(LayoutFault::Incomplete);
+    };
+    let Some(n) = length else {
+        return Ok(None);
+    };
+    let size = u128::from(n) * u128::from(element.size);
+    if size > u128::from(LARGEST) {
+        return Err(LayoutFault::TooLarge);
+    }
+    Ok(Some(Layout {
+        size: size as u32,
+        align: element.align,
+    }))
 }

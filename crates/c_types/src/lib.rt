@@ -3,6 +3,7 @@
 
 pub mod basic;
 pub mod fault;
+mod functions;
 pub mod layout;
 pub mod member;
 pub mod parts;

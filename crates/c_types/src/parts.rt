@@ -15,6 +15,7 @@ pub struct Made {
 
 impl Made {
     ghost use Rattle.c_types.specs.Inner.{entry_of, place_of, basics};
+    ghost use Rattle.c_types.specs.CType.{unqualified};
 
     /// An unqualified basic type.
     pub fn basic(basic: Basic) -> Made
@@ -24,6 +25,17 @@ impl Made {
             shape: Shape::Basic(basic),
             quals: Quals::NONE,
             layout: basic_layout(basic),
+        }
+    }
+
+    /// An unqualified type whose layout stands elsewhere, or that has none.
+    pub fn plain(shape: Shape) -> Made
+        ensures { result ≡ record { shape = shape; quals = unqualified; layout = None } }
+    {
+        Made {
+            shape,
+            quals: Quals::NONE,
+            layout: None,
         }
     }
 

@@ -1,14 +1,15 @@
-ghost use Rattle.std.specs.Prelude.{◌≡◌, ◌<◌, [], length, IfOk, OnErr, slice_get, option_map};
+ghost use Rattle.std.specs.Prelude.{◌≡◌, ◌<◌, [], length, IfOk, IfSome, OnErr, MatchOption, slice_get, option_map};
 ghost use Rattle.c_types.specs.declared.layout.Layout.{Layout};
 ghost use Rattle.c_types.specs.Types.{count_of};
-ghost use Rattle.c_types.specs.CType.{Plain, Basic', Pointer, Enumerated, quals_of, type_of, type_with, all_types, unqualified};
+ghost use Rattle.c_types.specs.CType.{Plain, Array, Basic', Pointer, Enumerated, quals_of, type_of, type_with, all_types, unqualified};
 ghost use Rattle.c_types.specs.Shapes.{RefersBelow, ShowsType, entry_at};
-ghost use Rattle.c_types.specs.Layouts.{layout_of, compound_layout};
+ghost use Rattle.c_types.specs.Layouts.{layout_of, compound_layout, array_fault, IsBuilt};
 ghost use Rattle.c_types.specs.Inner.{KeepsLayout, basics};
 ghost use Rattle.c_types.specs.Making.{MakesType};
 
 use crate::basic::Basic;
-use crate::layout::Layout;
+use crate::fault::BuildFault;
+use crate::layout::{Layout, array_layout};
 use crate::parts::{CompoundType, Made, Signature};
 use crate::shape::{Quals, Shape, TypeId};
 use std::alloc::{AllocError, Global};
@@ -91,6 +92,21 @@ impl TypeTable {
         self.push(Shape::Enumerated(number), Quals::NONE, Some(Layout::INT))
     }
 
+    /// An array of that length, or of none (6.2.5p20, 6.7.6.2).
+    ///
+    /// `Incomplete` comes exactly where the type of an element has no size, and else `TooLarge` where the array would
+    /// have more than 16,777,216 bytes.
+    pub fn array(&mut self, of: TypeId, length: Option<u64>) -> Result<TypeId, BuildFault>
+        requires of { of.0 < count_of self.old }
+        requires length { IfSome length (λ n. 0 < n) }
+        ensures made { IfOk result (λ id. MakesType self.old self.new id (Array (type_of self.old of) length)) }
+        ensures fault { IsBuilt (array_fault (layout_of (type_of self.old of) self.old.compounds) length) result }
+        ensures err { OnErr result (self.new ≡ self.old) }
+    {
+        let layout = array_layout(self.layout(of), length)?;
+        Ok(self.push(Shape::Array(of, length), Quals::NONE, layout)?)
+    }
+
     /// A basic type or `void`, unqualified.
     pub fn basic(&self, basic: Basic) -> TypeId
         ensures is_there { result.0 < count_of self.now }
@@ -123,11 +139,27 @@ impl TypeTable {
         requires { id.0 < count_of self.now }
         ensures { result ≡ quals_of (type_of self.now id) }
     {
-        let mut entry = self.entry(id);
-        while let Shape::Array(of, _) = entry.shape {
-            entry = self.entry(of);
+        let mut at = id;
+        while let Some(of) = self.element(at) {
+            at = of;
         }
-        entry.quals
+        self.entry(at).quals
+    }
+
+    // The type of an array's elements; of another type none, and its qualifiers are its own.
+    fn element(&self, id: TypeId) -> Option<TypeId>
+        requires { id.0 < count_of self.now }
+        ensures { MatchOption result (quals_of (type_of self.now id) ≡ (entry_at self.now id.0).quals)
+            (λ of. (of.0 < id.0) × (quals_of (type_of self.now id) ≡ quals_of (type_of self.now of))) }
+    {
+        match self.shape(id) {
+            Shape::Array(of, _) => Some(of),
+            Shape::Basic(_) => None,
+            Shape::Pointer(_) => None,
+            Shape::Function(_) => None,
+            Shape::Compound(_) => None,
+            Shape::Enumerated(_) => None,
+        }
     }
 
     // The layout of the type, where it has one.
