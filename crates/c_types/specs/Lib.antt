@@ -4,5 +4,6 @@ pub mod Shapes
 pub mod Layouts
 pub mod Making
 pub mod Functions
+pub mod Compounds
 pub mod Compatible
 pub mod Inner

@@ -2,6 +2,7 @@
 #![tactic(auto)]
 
 pub mod basic;
+mod compounds;
 pub mod fault;
 mod functions;
 pub mod layout;
