@@ -2,4 +2,5 @@ pub mod Fresh
 pub mod Grows
 pub mod Showing
 pub mod Sound
+pub mod WithCompound
 pub mod WithFunction

@@ -2,6 +2,7 @@
 #![tactic(auto)]
 
 pub mod basic;
+mod compatible;
 mod compounds;
 pub mod fault;
 mod functions;
