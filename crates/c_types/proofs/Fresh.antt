@@ -9,10 +9,10 @@ use Rattle.c_types.specs.declared.parts.Signature.{Signature}
 use Rattle.c_types.specs.declared.parts.CompoundType.{CompoundType}
 use Rattle.c_types.specs.declared.shape.TypeId.{TypeId}
 use Rattle.c_types.specs.Types.{Types, count_of}
-use Rattle.c_types.specs.CType.{CType, Plain, Basic', type_of, type_with, all_types, unqualified}
+use Rattle.c_types.specs.CType.{CType, number_of, Plain, Basic', type_of, type_with, all_types, unqualified}
 use Rattle.c_types.specs.Layouts.{basic_layout, layout_of}
 use Rattle.c_types.specs.Shapes.{RefersBelow, ShowsType, no_entry, entry_at}
-use Rattle.c_types.specs.Inner.{IsSound, KeepsLayout, HasMembersIn, basics, entry_of, place_of, parts_of, compound_of}
+use Rattle.c_types.specs.Inner.{IsSound, KeepsLayout, HasMembersIn, basics, entry_of, parts_of, compound_of}
 use Rattle.c_types.proofs.Showing.{shows}
 use Rattle.c_types.proofs.Sound.{begins_there}
 
@@ -59,10 +59,10 @@ sound-fresh =
         let type : type_of fresh id ≡ Plain (Basic' basic) unqualified = stands ∙ ap (λ (m : Made). type_with [] (all_types fresh) m.shape m.quals) e in
         subst (λ (m : Made). KeepsLayout m.shape m.layout (type_of fresh id) []) (sym e) (record { layout = subst (λ (t : CType). basic_layout basic ≡ layout_of t []) (sym type) refl; own = tt })
 
-place_below : (basic : Basic) → place_of basic < 13
+place_below : (basic : Basic) → number_of basic < 13
 place_below basic = grind arith
 
-first_entry : (basic : Basic) → slice_index_or basics (place_of basic) no_entry ≡ entry_of basic
+first_entry : (basic : Basic) → slice_index_or basics (number_of basic) no_entry ≡ entry_of basic
 first_entry b.Void = refl
 first_entry b.Bool = refl
 first_entry b.Char = refl
@@ -78,7 +78,7 @@ first_entry b.LongLong = refl
 first_entry b.ULongLong = refl
 
 -- each table has the basic types in the first places
-pub basic_there : (types : Types) (basic : Basic) (id : TypeId) → IsSound types → id.0 ≡ place_of basic → (id.0 < count_of types) × (type_of types id ≡ Plain (Basic' basic) unqualified)
+pub basic_there : (types : Types) (basic : Basic) (id : TypeId) → IsSound types → id.0 ≡ number_of basic → (id.0 < count_of types) × (type_of types id ≡ Plain (Basic' basic) unqualified)
 basic_there types basic id sound place =
     let small : id.0 < 13 = omega (arith, place, place_below basic) in
     let below : id.0 < count_of types = omega (arith, begins_there types sound, small) in

@@ -1,5 +1,6 @@
 pub mod Fresh
 pub mod Grows
+pub mod Parameters
 pub mod Showing
 pub mod Sound
 pub mod WithCompound

@@ -2,6 +2,7 @@
 use Rattle.std.specs.Prelude.{ℕ, Bool, false, List, [], ◌∷◌, ◌++◌, Option, Some, None, slice_get, slice_index_or}
 use Rattle.c_types.specs.declared.basic.Basic.{Basic}
 use Rattle.c_types.specs.declared.basic.Basic.TheVariants.{Void}
+use Rattle.c_types.specs.declared.basic.Basic.TheVariants as b
 use Rattle.c_types.specs.declared.shape.Shape.{Shape}
 use Rattle.c_types.specs.declared.shape.Shape.TheVariants as s
 use Rattle.c_types.specs.declared.shape.Quals.{Quals}
@@ -76,3 +77,19 @@ quals_of (Array of len) = quals_of of
 abbrev pub bare_of : CType → Bare
 bare_of (Plain bare quals) = bare
 bare_of (Array of len) = Basic' Void
+
+-- the number of a basic type in the order of 6.2.5
+abbrev pub number_of : Basic → ℕ
+number_of b.Void = 0
+number_of b.Bool = 1
+number_of b.Char = 2
+number_of b.SChar = 3
+number_of b.UChar = 4
+number_of b.Short = 5
+number_of b.UShort = 6
+number_of b.Int = 7
+number_of b.UInt = 8
+number_of b.Long = 9
+number_of b.ULong = 10
+number_of b.LongLong = 11
+number_of b.ULongLong = 12

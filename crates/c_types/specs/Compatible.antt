@@ -1,9 +1,10 @@
 -- Compatible types (6.2.7p1).
 use Rattle.std.specs.Prelude.{ℕ, Bool, true, false, not, ◌&&◌, ◌||◌, ◌==◌, Option, Some, None}
 use Rattle.c_types.specs.declared.basic.Basic.{Basic}
-use Rattle.c_types.specs.declared.basic.Basic.TheVariants as b
+use Rattle.c_types.specs.declared.shape.Shape.{Shape}
+use Rattle.c_types.specs.declared.shape.Shape.TheVariants as s
 use Rattle.c_types.specs.declared.shape.Quals.{Quals}
-use Rattle.c_types.specs.CType.{CType, CTypes, Bare, Plain, Array, Basic', Pointer, Function, Compound, Enumerated, Nil, Cons}
+use Rattle.c_types.specs.CType.{CType, CTypes, Bare, Plain, Array, Basic', Pointer, Function, Compound, Enumerated, Nil, Cons, number_of}
 
 abbrev pub same_bool : Bool → Bool → Bool
 same_bool true b = b
@@ -12,22 +13,6 @@ same_bool false b = not b
 -- identically qualified (6.7.3p10)
 abbrev pub same_quals : Quals → Quals → Bool
 same_quals q r = same_bool q.constant r.constant && same_bool q.volatile r.volatile && same_bool q.restricted r.restricted
-
--- the number of a basic type in the order of 6.2.5
-abbrev pub number_of : Basic → ℕ
-number_of b.Void = 0
-number_of b.Bool = 1
-number_of b.Char = 2
-number_of b.SChar = 3
-number_of b.UChar = 4
-number_of b.Short = 5
-number_of b.UShort = 6
-number_of b.Int = 7
-number_of b.UInt = 8
-number_of b.Long = 9
-number_of b.ULong = 10
-number_of b.LongLong = 11
-number_of b.ULongLong = 12
 
 abbrev pub is_int : Basic → Bool
 is_int basic = number_of basic == 7
@@ -68,3 +53,12 @@ unfoldable mutual
 -- whether two types are compatible
 abbrev pub compatible : CType → CType → Bool
 compatible a b = agree a b true
+
+-- whether the shapes of types without parts are compatible; the second may be any shape
+abbrev pub leaves_agree : Shape → Shape → Bool
+leaves_agree (s.Basic basic) (s.Basic basic') = number_of basic == number_of basic'
+leaves_agree (s.Basic basic) (s.Enumerated number) = is_int basic
+leaves_agree (s.Enumerated number) (s.Basic basic) = is_int basic
+leaves_agree (s.Enumerated number) (s.Enumerated number') = number == number'
+leaves_agree (s.Compound number) (s.Compound number') = number == number'
+leaves_agree shape other = false

@@ -68,19 +68,3 @@ pub record IsSound (types : Types) : Type 0 where
 
 abbrev pub IsSoundInside : Inside → Type 0
 IsSoundInside t = IsSound (types_of t)
-
--- where the first types stand
-abbrev pub place_of : Basic → ℕ
-place_of b.Void = 0
-place_of b.Bool = 1
-place_of b.Char = 2
-place_of b.SChar = 3
-place_of b.UChar = 4
-place_of b.Short = 5
-place_of b.UShort = 6
-place_of b.Int = 7
-place_of b.UInt = 8
-place_of b.Long = 9
-place_of b.ULong = 10
-place_of b.LongLong = 11
-place_of b.ULongLong = 12

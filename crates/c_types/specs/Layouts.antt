@@ -1,5 +1,5 @@
 -- Sizes, alignments, and the places of members (6.2.5, 6.2.6, 6.2.8, 6.7.2.1).
-use Rattle.std.specs.Prelude.{◌≡◌, ℕ, ◌+◌, ◌*◌, ◌/◌, max, Bool, List, [], ◌∷◌, ◌++◌, Option, Some, None, Result, Ok, Err, option_map, slice_get, nat_le, nat_lt, if◌then◌else◌}
+use Rattle.std.specs.Prelude.{◌≡◌, ℕ, ◌+◌, ◌*◌, ◌/◌, max, map, Bool, List, [], ◌∷◌, ◌++◌, Option, Some, None, Result, Ok, Err, option_map, slice_get, nat_le, nat_lt, if◌then◌else◌}
 use Rattle.std.specs.Int.{next_multiple_of}
 use Rattle.acc_num.specs.declared.kind.IntKind.{IntKind}
 use Rattle.acc_num.specs.declared.kind.IntKind.TheVariants as k
@@ -77,6 +77,48 @@ abbrev mutual
   bare_layout (Compound number) compounds = compound_layout (slice_get compounds number)
   bare_layout (Enumerated number) compounds = Some (scalar 4)
 
+-- the multiple of the alignment that is next from a byte on
+abbrev pub rounded : ℕ → ℕ → ℕ
+rounded from align = next_multiple_of from align
+
+-- the greatest alignment of some members
+abbrev pub strictest : List Layout → ℕ
+strictest [] = 1
+strictest (l ∷ ls) = max l.align (strictest ls)
+
+-- the byte behind the last member of a structure whose members are placed in order from a byte on (6.7.2.1p15)
+abbrev pub end_from : ℕ → List Layout → ℕ
+end_from from [] = from
+end_from from (l ∷ ls) = end_from (rounded from l.align + l.size) ls
+
+-- the size of the largest member (6.7.2.1p16)
+abbrev pub largest_size : List Layout → ℕ
+largest_size [] = 0
+largest_size (l ∷ ls) = max l.size (largest_size ls)
+
+-- the size of a structure or union with members of these layouts, with the padding at its end (6.7.2.1p17)
+abbrev pub size_with : Bool → List Layout → ℕ
+size_with is_union ls = rounded (if is_union then largest_size ls else end_from 0 ls) (strictest ls)
+
+-- the places of the members of a structure from a byte on
+abbrev pub places_from : ℕ → List Layout → List ℕ
+places_from from [] = []
+places_from from (l ∷ ls) = rounded from l.align ∷ places_from (rounded from l.align + l.size) ls
+
+-- the places of the members; those of a union begin at 0
+abbrev pub places_with : Bool → List Layout → List ℕ
+places_with is_union ls = if is_union then map (λ l. 0) ls else places_from 0 ls
+
+abbrev pub layout_and : Option Layout → Option (List Layout) → Option (List Layout)
+layout_and (Some l) (Some ls) = Some (l ∷ ls)
+layout_and (Some l) None = None
+layout_and None ls = None
+
+-- the layouts of some types, if each has one
+abbrev pub layouts_of : Types → List TypeId → Option (List Layout)
+layouts_of types [] = Some []
+layouts_of types (id ∷ ids) = layout_and (layout_of (type_of types id) types.compounds) (layouts_of types ids)
+
 -- the largest object
 abbrev pub largest : ℕ
 largest = 16777216
@@ -102,3 +144,8 @@ abbrev pub IsBuilt : {T : Type 0} → Option LayoutFault → Result T BuildFault
 IsBuilt fault (Ok made) = fault ≡ None
 IsBuilt fault (Err (Layout' f)) = fault ≡ Some f
 IsBuilt fault (Err (Memory e)) = Unit {0}
+
+-- why there is no structure or union with members of these layouts
+abbrev pub compound_fault : Bool → Option (List Layout) → Option LayoutFault
+compound_fault is_union None = Some Incomplete
+compound_fault is_union (Some ls) = if nat_le (size_with is_union ls) largest then None else Some TooLarge

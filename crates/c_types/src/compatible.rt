@@ -1,11 +1,12 @@
 ghost use Rattle.std.specs.Prelude.{◌≡◌, ◌<◌};
 ghost use Rattle.c_types.specs.Types.{count_of};
 ghost use Rattle.c_types.specs.CType.{type_of};
-ghost use Rattle.c_types.specs.Functions.{IsFunction};
-ghost use Rattle.c_types.specs.Compatible.{compatible, agree, bare_agree, lengths_agree, same_quals};
+ghost use Rattle.c_types.specs.Functions.{IsFunction, parameters_of};
+ghost use Rattle.c_types.specs.Compatible.{compatible, agree, bare_agree, all_agree, lengths_agree, same_quals, is_int, leaves_agree};
 ghost use Rattle.c_types.specs.CType.{bare_of};
 
 use crate::basic::Basic;
+use crate::parts::Made;
 use crate::shape::{Quals, Shape, TypeId};
 use crate::table::TypeTable;
 
@@ -22,6 +23,7 @@ impl TypeTable {
     // The types are compatible, where the outermost qualifiers count only if `strict`. It ends, since the parts of
     // a type have lower ids, and the members of a compound type are not looked at.
     #[cycle(agree)]
+    #[tactic(auto, unfolding(crate::specs::Compatible::agree, crate::specs::Compatible::bare_agree))]
     fn agree(&self, a: TypeId, b: TypeId, strict: bool) -> bool
         requires a { a.0 < count_of self.now }
         requires b { b.0 < count_of self.now }
@@ -50,9 +52,9 @@ impl TypeTable {
         }
     }
 
-    // The function types agree in what they give, in the ellipsis, and in their parameters without the outermost
-    // qualifiers.
+    // The function types agree in what they give, in the ellipsis, and in their parameters.
     #[cycle(agree)]
+    #[tactic(auto, unfolding(crate::specs::Compatible::bare_agree))]
     fn functions_agree(&self, a: TypeId, b: TypeId) -> bool
         requires a { a.0 < count_of self.now }
         requires b { b.0 < count_of self.now }
@@ -60,15 +62,26 @@ impl TypeTable {
         requires b_function { IsFunction (type_of self.now b) }
         ensures { result ≡ bare_agree (bare_of (type_of self.now a)) (bare_of (type_of self.now b)) }
     {
-        let (left, right) = (self.signature(a), self.signature(b));
-        if left.variadic != right.variadic || left.parameters.len() != right.parameters.len() {
+        self.agree(self.gives(a), self.gives(b), true)
+            && self.is_variadic(a) == self.is_variadic(b)
+            && self.parameters_agree(a, b)
+    }
+
+    // As many parameters, which agree without their outermost qualifiers.
+    #[cycle(agree)]
+    fn parameters_agree(&self, a: TypeId, b: TypeId) -> bool
+        requires a { a.0 < count_of self.now }
+        requires b { b.0 < count_of self.now }
+        requires a_function { IsFunction (type_of self.now a) }
+        requires b_function { IsFunction (type_of self.now b) }
+        ensures { result ≡ all_agree (parameters_of (type_of self.now a)) (parameters_of (type_of self.now b)) }
+    {
+        let (left, right) = (self.parameters(a), self.parameters(b));
+        if left.len() != right.len() {
             return false;
         }
-        if !self.agree(left.gives, right.gives, true) {
-            return false;
-        }
-        for i in 0..left.parameters.len() {
-            if !self.agree(left.parameters[i], right.parameters[i], false) {
+        for i in 0..left.len() {
+            if !self.agree(left[i], right[i], false) {
                 return false;
             }
         }
@@ -95,16 +108,25 @@ fn lengths_agree(left: Option<u64>, right: Option<u64>) -> bool
     }
 }
 
+// The type is `int`.
+fn is_int(basic: Basic) -> bool
+    ensures { result ≡ is_int basic }
+{
+    Made::place(basic) == Made::place(Basic::Int)
+}
+
 // Types without parts agree; the other shape may be any.
-fn leaves_agree(left: Shape, right: Shape) -> bool {
+fn leaves_agree(left: Shape, right: Shape) -> bool
+    ensures { result ≡ leaves_agree left right }
+{
     match left {
         Shape::Basic(basic) => match right {
-            Shape::Basic(other) => basic == other,
-            Shape::Enumerated(_) => basic == Basic::Int,
+            Shape::Basic(other) => Made::place(basic) == Made::place(other),
+            Shape::Enumerated(_) => is_int(basic),
             _ => false,
         },
         Shape::Enumerated(number) => match right {
-            Shape::Basic(other) => other == Basic::Int,
+            Shape::Basic(other) => is_int(other),
             Shape::Enumerated(other) => number == other,
             _ => false,
         },

@@ -9,6 +9,7 @@ mod functions;
 pub mod layout;
 pub mod member;
 pub mod parts;
+mod placing;
 pub mod shape;
 pub mod table;
 

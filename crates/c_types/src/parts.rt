@@ -14,8 +14,8 @@ pub struct Made {
 }
 
 impl Made {
-    ghost use Rattle.c_types.specs.Inner.{entry_of, place_of, basics};
-    ghost use Rattle.c_types.specs.CType.{unqualified};
+    ghost use Rattle.c_types.specs.Inner.{entry_of, basics};
+    ghost use Rattle.c_types.specs.CType.{unqualified, number_of};
 
     /// An unqualified basic type.
     pub fn basic(basic: Basic) -> Made
@@ -39,9 +39,9 @@ impl Made {
         }
     }
 
-    /// Where each table has a basic type.
+    /// The number of a basic type, which is also its id in each table.
     pub fn place(basic: Basic) -> u64
-        ensures { result ≡ place_of basic }
+        ensures { result ≡ number_of basic }
     {
         match basic {
             Basic::Void => 0,
