@@ -1,0 +1,7 @@
+pub mod Fresh
+pub mod Grows
+pub mod Parameters
+pub mod Showing
+pub mod Sound
+pub mod WithCompound
+pub mod WithFunction

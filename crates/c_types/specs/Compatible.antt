@@ -1,0 +1,64 @@
+-- Compatible types (6.2.7p1).
+use Rattle.std.specs.Prelude.{ℕ, Bool, true, false, not, ◌&&◌, ◌||◌, ◌==◌, Option, Some, None}
+use Rattle.c_types.specs.declared.basic.Basic.{Basic}
+use Rattle.c_types.specs.declared.shape.Shape.{Shape}
+use Rattle.c_types.specs.declared.shape.Shape.TheVariants as s
+use Rattle.c_types.specs.declared.shape.Quals.{Quals}
+use Rattle.c_types.specs.CType.{CType, CTypes, Bare, Plain, Array, Basic', Pointer, Function, Compound, Enumerated, Nil, Cons, number_of}
+
+abbrev pub same_bool : Bool → Bool → Bool
+same_bool true b = b
+same_bool false b = not b
+
+-- identically qualified (6.7.3p10)
+abbrev pub same_quals : Quals → Quals → Bool
+same_quals q r = same_bool q.constant r.constant && same_bool q.volatile r.volatile && same_bool q.restricted r.restricted
+
+abbrev pub is_int : Basic → Bool
+is_int basic = number_of basic == 7
+
+-- the lengths of two arrays agree where one is not given, or both are equal (6.7.6.2p6)
+abbrev pub lengths_agree : Option ℕ → Option ℕ → Bool
+lengths_agree None n = true
+lengths_agree (Some m) None = true
+lengths_agree (Some m) (Some n) = m == n
+
+-- Whether two types are compatible. At a parameter the outermost qualifiers do not count (6.7.6.3p15): `strict` says that
+-- they do. The parts of a type are smaller than the type, and a compound type is compatible with itself alone, whatever
+-- its members are, so the comparison ends.
+unfoldable mutual
+  pub agree : CType → CType → Bool → Bool
+  agree (Plain bare quals) (Plain other quals') strict = (not strict || same_quals quals quals') && bare_agree bare other
+  agree (Array of len) (Array of' len') strict = lengths_agree len len' && agree of of' strict
+  agree (Plain bare quals) (Array of' len') strict = false
+  agree (Array of len) (Plain other quals') strict = false
+
+  pub bare_agree : Bare → Bare → Bool
+  bare_agree (Basic' basic) (Basic' basic') = number_of basic == number_of basic'
+  bare_agree (Basic' basic) (Enumerated number) = is_int basic
+  bare_agree (Enumerated number) (Basic' basic) = is_int basic
+  bare_agree (Enumerated number) (Enumerated number') = number == number'
+  bare_agree (Compound number) (Compound number') = number == number'
+  bare_agree (Pointer to) (Pointer to') = agree to to' true
+  bare_agree (Function gives parameters variadic) (Function gives' parameters' variadic') =
+      agree gives gives' true && same_bool variadic variadic' && all_agree parameters parameters'
+  bare_agree bare other = false
+
+  pub all_agree : CTypes → CTypes → Bool
+  all_agree Nil Nil = true
+  all_agree (Cons first rest) (Cons first' rest') = agree first first' false && all_agree rest rest'
+  all_agree Nil (Cons first' rest') = false
+  all_agree (Cons first rest) Nil = false
+
+-- whether two types are compatible
+abbrev pub compatible : CType → CType → Bool
+compatible a b = agree a b true
+
+-- whether the shapes of types without parts are compatible; the second may be any shape
+abbrev pub leaves_agree : Shape → Shape → Bool
+leaves_agree (s.Basic basic) (s.Basic basic') = number_of basic == number_of basic'
+leaves_agree (s.Basic basic) (s.Enumerated number) = is_int basic
+leaves_agree (s.Enumerated number) (s.Basic basic) = is_int basic
+leaves_agree (s.Enumerated number) (s.Enumerated number') = number == number'
+leaves_agree (s.Compound number) (s.Compound number') = number == number'
+leaves_agree shape other = false

@@ -1,0 +1,83 @@
+-- Structures and unions, and their members (6.7.2.1).
+use Rattle.std.specs.Prelude.{◌≡◌, ℕ, ◌<◌, ◌+◌, Bool, false, List, [], ◌∷◌, ◌++◌, length, Option, Some, None, slice_index_or, slice_set, if◌then◌else◌}
+use Rattle.std.specs.Str.{bytes_eq}
+use Rattle.c_types.specs.declared.member.Member.{Member}
+use Rattle.c_types.specs.declared.layout.Layout.{Layout}
+use Rattle.c_types.specs.declared.shape.TypeId.{TypeId}
+use Rattle.c_types.specs.Types.{CompoundParts, CompoundBody, Types, count_of}
+use Rattle.c_types.specs.CType.{CType, Plain, Array, Bare, Compound, type_of, unqualified}
+use Rattle.c_types.specs.Making.{KeepsTypes}
+use Rattle.c_types.specs.Layouts.{layouts_of, places_with, size_with, strictest}
+
+-- a structure or union
+abbrev pub IsCompound : CType → Type 0
+IsCompound (Plain (Compound number) quals) = Unit {0}
+IsCompound other = ⊥
+
+-- a structure that is not complete
+abbrev pub incomplete : Bool → CompoundParts
+incomplete is_union = record { is_union = is_union; body = None }
+
+-- what a table knows of a compound type
+abbrev pub compound_at : Types → CType → CompoundParts
+compound_at types (Plain (Compound number) quals) = slice_index_or types.compounds number (incomplete false)
+compound_at types other = incomplete false
+
+abbrev pub members_in : Option CompoundBody → List Member
+members_in None = []
+members_in (Some body) = body.members
+
+-- the members of a complete compound type; another type has none
+abbrev pub members_at : Types → CType → List Member
+members_at types type = members_in (compound_at types type).body
+
+-- the type and the place of the first member of that name
+abbrev pub member_named : List Member → List ℕ → Option (TypeId × ℕ)
+member_named [] name = None
+member_named (member ∷ members) name =
+    if bytes_eq member.name name then Some (member.of, member.at) else member_named members name
+
+-- the table with one more compound type among the parts
+abbrev pub with_compound : Types → CompoundParts → Types
+with_compound types parts = record { made = types.made; functions = types.functions; compounds = types.compounds ++ parts ∷ [] }
+
+-- The table has made an incomplete structure or union, which is none of those that are there.
+pub record MakesCompound (old new : Types) (id : TypeId) (is_union : Bool) : Type 0 where
+  pub is_there : id.0 < count_of new
+  pub stands_for : type_of new id ≡ Plain (Compound (length old.compounds)) unqualified
+  pub types : KeepsTypes old new
+  pub compounds : new.compounds ≡ old.compounds ++ incomplete is_union ∷ []
+
+-- members of these names, types and places
+abbrev pub members_with : List (List ℕ) → List TypeId → List ℕ → List Member
+members_with (name ∷ names) (of ∷ types) (at ∷ places) = record { name = name; of = of; at = at } ∷ members_with names types places
+members_with (name ∷ names) (of ∷ types) [] = []
+members_with (name ∷ names) [] places = []
+members_with [] types places = []
+
+-- the body of a structure or union with these members
+abbrev pub body_with : Bool → List (List ℕ) → List TypeId → List Layout → CompoundBody
+body_with is_union names types ls = record {
+  members = members_with names types (places_with is_union ls);
+  layout = record { size = size_with is_union ls; align = strictest ls };
+}
+
+-- a structure or union that is not complete
+abbrev pub IsIncomplete : Types → CType → Type 0
+IsIncomplete table type = IsCompound type × ((compound_at table type).body ≡ None)
+
+abbrev pub number_in : CType → ℕ
+number_in (Plain (Compound number) quals) = number
+number_in other = 0
+
+-- the table where a compound type has got this body
+abbrev pub with_body : Types → ℕ → CompoundParts → Types
+with_body types number parts = record { made = types.made; functions = types.functions; compounds = slice_set types.compounds number parts }
+
+-- The type has got members of these names and types, laid out in order; nothing else has changed.
+pub record Completes (old new : Types) (id : TypeId) (names : List (List ℕ)) (types : List TypeId) : Type 0 where
+  pub layouts : List Layout
+  pub are : layouts_of old types ≡ Some layouts
+  pub body : new ≡ with_body old (number_in (type_of old id)) (record {
+    is_union = (compound_at old (type_of old id)).is_union;
+    body = Some (body_with (compound_at old (type_of old id)).is_union names types layouts) })

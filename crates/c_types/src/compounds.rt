@@ -1,0 +1,96 @@
+ghost use Rattle.std.specs.Prelude.{◌≡◌, ◌<◌, IfOk, OnErr, option_map};
+ghost use Rattle.c_types.specs.Types.{CompoundBody, count_of};
+ghost use Rattle.c_types.specs.CType.{type_of};
+ghost use Rattle.c_types.specs.Compounds.{IsCompound, MakesCompound, compound_at, members_at, member_named};
+ghost use Rattle.c_types.specs.Inner.{compound_of};
+
+use crate::member::Member;
+use crate::parts::{CompoundType, Made};
+use crate::shape::{Shape, TypeId};
+use crate::table::TypeTable;
+use critical_table::Name;
+use std::alloc::AllocError;
+
+impl TypeTable {
+    /// An incomplete structure or union (6.7.2.3p5), which is none of those that are there.
+    pub fn compound(&mut self, is_union: bool) -> Result<TypeId, AllocError>
+        ensures made { IfOk result (λ id. MakesCompound self.old self.new id is_union) }
+        ensures err { OnErr result (self.new ≡ self.old) }
+    {
+        let number = self.compounds.len() as u64;
+        let id = TypeId(self.made.len() as u64);
+        self.made.push(Made::plain(Shape::Compound(number)))?;
+        let parts = CompoundType {
+            is_union,
+            body: None,
+        };
+        if self.compounds.push(parts).is_err() {
+            self.made.pop();
+            return Err(AllocError);
+        }
+        Ok(id)
+    }
+
+    // The parts of a structure or union.
+    fn compound_parts(&self, id: TypeId) -> &CompoundType
+        requires is_there { id.0 < count_of self.now }
+        requires compound { IsCompound (type_of self.now id) }
+        ensures { compound_of result.now ≡ compound_at self.now (type_of self.now id) }
+    {
+        match self.shape(id) {
+            Shape::Compound(number) => &self.compounds[number as usize],
+            _ => unreachable!(),
+        }
+    }
+
+    /// The type is a union and no structure.
+    pub fn is_union(&self, id: TypeId) -> bool
+        requires is_there { id.0 < count_of self.now }
+        requires compound { IsCompound (type_of self.now id) }
+        ensures { result ≡ (compound_at self.now (type_of self.now id)).is_union }
+    {
+        self.compound_parts(id).is_union
+    }
+
+    /// The members of a structure or union, in order; none while it is incomplete.
+    pub fn members(&self, id: TypeId) -> Option<&[Member]>
+        requires is_there { id.0 < count_of self.now }
+        requires compound { IsCompound (type_of self.now id) }
+        ensures { option_map (λ members. members.now) result
+            ≡ option_map (λ (body : CompoundBody). body.members) (compound_at self.now (type_of self.now id)).body }
+    {
+        match &self.compound_parts(id).body {
+            Some(body) => Some(body.members.as_slice()),
+            None => None,
+        }
+    }
+
+    /// The type of the member of that name, and the byte at which it begins (6.5.2.3p3).
+    ///
+    /// None exactly where the type has no such member.
+    pub fn member(&self, id: TypeId, name: &Name) -> Option<(TypeId, u32)>
+        requires { id.0 < count_of self.now }
+        ensures { result ≡ member_named (members_at self.now (type_of self.now id)) name.now }
+    {
+        match self.shape(id) {
+            Shape::Compound(_) => named(self.members(id)?, name),
+            Shape::Basic(_) => None,
+            Shape::Pointer(_) => None,
+            Shape::Array(_, _) => None,
+            Shape::Function(_) => None,
+            Shape::Enumerated(_) => None,
+        }
+    }
+}
+
+// The first member of that name.
+fn named(members: &[Member], name: &Name) -> Option<(TypeId, u32)>
+    ensures { result ≡ member_named members.now name.now }
+{
+    for member in members {
+        if member.name == *name {
+            return Some((member.of, member.at));
+        }
+    }
+    None
+}

@@ -1,0 +1,21 @@
+//! The types of C11 in a table: how each is built, how large it is, and which are compatible.
+#![tactic(auto)]
+
+pub mod basic;
+mod compatible;
+mod compounds;
+pub mod fault;
+mod functions;
+pub mod layout;
+pub mod member;
+pub mod parts;
+mod placing;
+pub mod shape;
+pub mod table;
+
+pub use basic::Basic;
+pub use fault::{BuildFault, LayoutFault};
+pub use layout::Layout;
+pub use member::Member;
+pub use shape::{Quals, Shape, TypeId};
+pub use table::TypeTable;
