@@ -3,3 +3,4 @@ pub mod Storage
 pub mod Messages
 pub mod Steps
 pub mod Reach
+pub mod Marks

@@ -1,5 +1,5 @@
 -- Whether an access reaches its range, or which critical case it is (L.3p2).
-use Rattle.std.specs.Prelude.{◌≡◌, ℕ, ◌+◌, ◌-◌, ◌%◌, ◌==◌, nat_lt, Bool, true, false, not, ◌&&◌, ◌||◌, List, [], ◌∷◌, length, Option, Some, None, is_none, IsTrue, if◌then◌else◌}
+use Rattle.std.specs.Prelude.{◌≡◌, ℕ, ◌+◌, ◌-◌, ◌%◌, ◌==◌, nat_lt, Bool, true, false, not, ◌&&◌, ◌||◌, List, [], ◌∷◌, length, Option, Some, None, is_none, IsTrue, Result, MatchResult, if◌then◌else◌}
 use Rattle.std.specs.Option.{option_map_or, option_or}
 use Rattle.std.specs.List.{list_any}
 use Rattle.critical_table.specs.declared.case.Case.{Case}
@@ -114,6 +114,10 @@ access s place len align = record { object = object_of s.objects place.object; p
 -- the critical case that the access is; none where it reaches its range
 abbrev pub reach : Storage → Pointer → ℕ → ℕ → By → Option Case
 reach s place len align by = first_case reach_table (access s place len align) by
+
+-- the answer is this case, or good where there is none
+abbrev pub Tells : Result (Unit {0}) Case → Option Case → Type 0
+Tells answer found = MatchResult answer (λ _. found ≡ None) (λ case. found ≡ Some case)
 
 -- whether an access of this kind stores
 abbrev pub stores : By → Bool

@@ -1,6 +1,7 @@
 ghost use Rattle.std.specs.Prelude.{◌≡◌, ◌+◌, ◌-◌, ◌*◌, ◌<◌, ◌≤◌, ◌↔◌, [], Some, None, IfOk, IsErr, IsErrOf, OnOk, OnErr, IsTrue, option_copied, length, map, replicate};
 ghost use Rattle.object_store.specs.Object.{place_of};
 
+use crate::by::By;
 use crate::class::Class;
 use crate::fault::{MakeFault, OverBytes};
 use crate::mark::Mark;
@@ -9,6 +10,7 @@ use crate::pointer::Pointer;
 use crate::slot::Slot;
 use crate::view::View;
 use crate::writes::{Write, Writes};
+use critical_table::Case;
 use std::alloc::{AllocError, Global};
 use std::marker::Model;
 use std::mem;
@@ -43,6 +45,7 @@ impl Model for Store {
 impl Store {
     ghost use Rattle.object_store.specs.Object.{number_of, place_of, object_of};
     ghost use Rattle.object_store.specs.Storage.{is_live, live_bytes, fits};
+    ghost use Rattle.object_store.specs.Reach.{Tells, reach, stores, IsReached, IsReachedToStore};
     ghost use Rattle.object_store.specs.Messages.{fresh_store};
     ghost use Rattle.object_store.specs.Steps.{next_number, with_new, with_dead, with_mark, with_call, without_call, cells_of, bytes_at, stored};
 
@@ -163,6 +166,20 @@ impl Store {
         ensures { result ≡ fits self.now released size }
     {
         size <= self.budget - self.live.saturating_sub(released)
+    }
+
+    /// Answers the critical case of Annex L that an access is, or that it reaches its range: the first row of the table of
+    /// reaches that holds, in the column of `by`.
+    #[tactic(auto, unfolding(crate::specs::Reach::reach_table))]
+    pub fn reach(&self, place: Pointer, len: u32, align: u32, by: By) -> Result<(), Case>
+        ensures table { Tells result (reach self.now place len align by) }
+        ensures reached { OnOk result (IsReached self.now place len) }
+        ensures stores { OnOk result (IsTrue (stores by) → IsReachedToStore self.now place len) }
+    {
+        match self.find(place.object) {
+            Some(slot) => slot.reach(place, len, align, by),
+            None => Err(by.invalid()),
+        }
     }
 
     /// Hands over the stores since this was last called, in order; those of length 0 are none.
