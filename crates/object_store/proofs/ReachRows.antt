@@ -40,10 +40,10 @@ bounds_rows a by right more inside aligned = rw (right, more, inside, aligned) r
 -- what an answer to a reach says of the range
 pub reached : (s : Storage) (place : Pointer) (len align : ℕ) (by : By) (answer : Result (Unit {0}) Case)
     → Tells answer (reach s place len align by) → OnOk answer (IsReached s place len)
-reached s place len align by (Ok u) told = (align, (by, told))
+reached s place len align by (Ok u) told = record { align = align; by = by; reached = told }
 reached s place len align by (Err e) told = tt
 
 pub reached_to_store : (s : Storage) (place : Pointer) (len align : ℕ) (by : By) (answer : Result (Unit {0}) Case)
     → Tells answer (reach s place len align by) → OnOk answer (IsTrue (stores by) → IsReachedToStore s place len)
-reached_to_store s place len align by (Ok u) told = λ storing. (align, (by, (storing, told)))
+reached_to_store s place len align by (Ok u) told = λ storing. record { align = align; by = by; storing = storing; reached = told }
 reached_to_store s place len align by (Err e) told = tt

@@ -127,10 +127,14 @@ stores OtherWrite = true
 stores _ = false
 
 -- the range is reached, at some alignment, by some kind of access
-abbrev pub IsReached : Storage → Pointer → ℕ → Type 0
-IsReached s place len = (align : ℕ) × ((by : By) × (reach s place len align by ≡ None))
+pub record IsReached (s : Storage) (place : Pointer) (len : ℕ) : Type 0 where
+  pub align : ℕ
+  pub by : By
+  pub reached : reach s place len align by ≡ None
 
 -- the same, by a kind of access that stores
-abbrev pub IsReachedToStore : Storage → Pointer → ℕ → Type 0
-IsReachedToStore s place len =
-    (align : ℕ) × ((by : By) × (IsTrue (stores by) × (reach s place len align by ≡ None)))
+pub record IsReachedToStore (s : Storage) (place : Pointer) (len : ℕ) : Type 0 where
+  pub align : ℕ
+  pub by : By
+  pub storing : IsTrue (stores by)
+  pub reached : reach s place len align by ≡ None
