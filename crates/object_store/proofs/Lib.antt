@@ -3,4 +3,4 @@ pub mod Counting
 pub mod Found
 pub mod Positions
 pub mod ReachRows
-pub mod Ranges
+pub mod RangeLemmas

@@ -4,3 +4,4 @@ pub mod Messages
 pub mod Steps
 pub mod Reach
 pub mod Marks
+pub mod Ranges

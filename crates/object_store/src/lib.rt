@@ -13,6 +13,7 @@ pub mod fault;
 pub mod mark;
 mod messages;
 pub mod pointer;
+mod ranges;
 mod reach;
 mod slot;
 pub mod store;
