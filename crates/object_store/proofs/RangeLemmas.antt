@@ -1,8 +1,9 @@
 -- What is known of a range that was reached.
-use Rattle.std.proofs.Common.{◌≡◌, ◌≢◌, ℕ, suc, zero, ◌++◌, map, set, ◌+◌, ◌%◌, ◌<◌, ◌≤◌, ◌==◌, nat_lt, Bool, true, false, cond, not, ◌&&◌, ◌||◌, List, [], ◌∷◌, length, drop, slice_get, Option, Some, None, IsSome, IsTrue, refl, arith, rules, ap, sym, ◌∙◌}
+use Rattle.std.proofs.Common.{◌≡◌, ◌≢◌, ℕ, suc, zero, ◌++◌, map, set, get_or, ◌+◌, ◌%◌, ◌<◌, ◌≤◌, ◌==◌, nat_lt, Bool, true, false, cond, not, ◌&&◌, ◌||◌, List, [], ◌∷◌, length, drop, slice_get, Option, Some, None, IsSome, IsTrue, refl, arith, rules, ap, sym, ◌∙◌}
 use Rattle.std.specs.Option.{option_map_or, option_and_then, option_or}
 use Rattle.std.proofs.lemmas.Grind.{common_steps}
-use Rattle.std.proofs.lemmas.List.{places, length-map, length-set}
+use Rattle.std.proofs.lemmas.Option.{same_Some, get_or_from_slice_get}
+use Rattle.std.proofs.lemmas.List.{places, set-set, length-map, length-set}
 use Rattle.critical_table.specs.declared.case.Case.{Case}
 use Rattle.critical_table.specs.declared.case.Case.TheVariants.{L1, L4, L6, L7, L9, L11, L12}
 use Rattle.object_store.specs.declared.by.By.{By}
@@ -12,10 +13,11 @@ use Rattle.object_store.specs.declared.cell.Cell.{Cell}
 use Rattle.object_store.specs.declared.writes.Write.{Write}
 use Rattle.object_store.specs.Object.{Object, place_of, numbered, object_of}
 use Rattle.object_store.specs.Storage.{Storage, live_size, counted, IsCounted}
-use Rattle.object_store.specs.Steps.{with_cells, stored_cell, cells_of, written, stored}
+use Rattle.object_store.specs.Steps.{with_cells, stored_cell, cells_of, bytes_in, range, written, stored}
 use Rattle.object_store.specs.Reach.{Access, Row, columns, first_case, reach_table, reach, access, stores, is_no_object, is_dead, is_dead_even, is_dead_odd, has_wrong_bounds, is_at_end, is_outside, is_misaligned, IsReached, IsReachedToStore}
 use Rattle.object_store.specs.Ranges.{InRange}
 use Rattle.object_store.proofs.Found.{numbered_same}
+use Rattle.object_store.proofs.CellLists.{length-range}
 use Rattle.object_store.proofs.Counting.{counted-set_same}
 
 -- a row that has a case in the column, and is passed, does not hold
@@ -157,3 +159,57 @@ pub stored_none : (s : Storage) (place : Pointer) (bytes : List (Option ℕ)) �
 unfolding stored
 stored_none s place [] e = refl
 stored_none s place (b ∷ bytes) e = absurd (omega arith)
+
+pub length-bytes_in : (objects : List Object) (place : Pointer) (len : ℕ) → InRange objects place len → len ≡ length (bytes_in objects place len)
+length-bytes_in objects place len r =
+    rw (length-map, cells_of-found objects place.object r.object r.own)
+    (sym (length-range r.object.cells place.offset len (omega (arith, r.high, r.within))))
+
+object_of-set_other : (objects : List Object) (i number : ℕ) (y : Object) → i ≢ place_of number → object_of (set objects i y) number ≡ object_of objects number
+object_of-set_other objects i number y ne = ap (option_and_then (numbered number)) (slice_get-set_other objects i (place_of number) y ne)
+
+-- the bytes of a range, where its object is known
+bytes_in-found : (objects : List Object) (place : Pointer) (len : ℕ) (o : Object) → object_of objects place.object ≡ Some o
+    → bytes_in objects place len ≡ map (λ c. c.byte) (range o.cells place.offset len)
+bytes_in-found objects place len o own = rw (cells_of-found objects place.object o own) refl
+
+-- bytes are moved within one object
+pub shifted : (objects : List Object) (to from : Pointer) (len i : ℕ) (old new : Object) (t : InRange objects to len) (f : InRange objects from len)
+    → place_of to.object ≡ place_of from.object → i ≡ place_of to.object → old ≡ get_or objects i old
+    → new ≡ record old { cells = with_cells old.cells to.offset (map stored_cell (map (λ c. c.byte) (range old.cells from.offset len))) }
+    → set objects i new ≡ written objects to (bytes_in objects from len)
+shifted objects to from len i old new t f same at is moves =
+    let o : Object = t.object in
+    let here : slice_get objects i ≡ Some o = rw at t.at in
+    let old_is : old ≡ o = is ∙ get_or_from_slice_get objects i o old here in
+    let one : f.object ≡ o = same_Some f.object o (sym f.at ∙ rw (← same) t.at) in
+    rw (written_at objects to (bytes_in objects from len) o t.at, bytes_in-found objects from len f.object f.own, one, moves, old_is, at) refl
+
+-- bytes are copied between two objects, while the cells of the one that is stored to are out of the list
+pub copied : (objects mid final : List Object) (to from : Pointer) (len i : ℕ) (source cells : List Cell) (t : InRange objects to len)
+    (f : InRange objects from len) → i ≡ place_of to.object → i ≢ place_of from.object
+    → mid ≡ set objects i (record t.object { cells = [] })
+    → source ≡ range (cells_of mid from.object) from.offset len
+    → cells ≡ with_cells t.object.cells to.offset (map stored_cell (map (λ c. c.byte) source))
+    → final ≡ set mid i (record t.object { cells = cells })
+    → final ≡ written objects to (bytes_in objects from len)
+copied objects mid final to from len i source cells t f at ne out read moves back =
+    let own : object_of mid from.object ≡ Some f.object = rw out (object_of-set_other objects i from.object (record t.object { cells = [] }) ne ∙ f.own) in
+    let source_is : source ≡ range f.object.cells from.offset len = rw (cells_of-found mid from.object f.object own) at read in
+    rw (
+      back,
+      out,
+      set-set,
+      moves,
+      source_is,
+      written_at objects to (bytes_in objects from len) t.object t.at,
+      bytes_in-found objects from len f.object f.own,
+      at,
+    ) refl
+
+-- how many cells of an object are read while another one is out of the list
+pub length_read : (objects mid : List Object) (from : Pointer) (len i : ℕ) (y : Object) (source : List Cell) (f : InRange objects from len)
+    → i ≢ place_of from.object → mid ≡ set objects i y → source ≡ range (cells_of mid from.object) from.offset len → length source ≡ len
+length_read objects mid from len i y source f ne out read =
+    let own : object_of mid from.object ≡ Some f.object = rw out (object_of-set_other objects i from.object y ne ∙ f.own) in
+    rw (read, cells_of-found mid from.object f.object own) (length-range f.object.cells from.offset len (omega (arith, f.high, f.within)))
