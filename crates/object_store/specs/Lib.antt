@@ -5,3 +5,4 @@ pub mod Steps
 pub mod Reach
 pub mod Marks
 pub mod Ranges
+pub mod Load

@@ -10,6 +10,7 @@ pub mod cell;
 mod cells;
 pub mod class;
 pub mod fault;
+mod load;
 pub mod mark;
 mod messages;
 pub mod pointer;
