@@ -40,11 +40,14 @@ IsCounted-dead objects number i size budget live calls old new known e behind is
     let same : old ≡ known.object = is ∙ get_or_from_slice_get objects i known.object old at in
     let was : live_size known.object ≡ length known.object.cells = rw known.live refl in
     let sum : counted (set objects i new) calls + live_size known.object ≡ counted objects calls + live_size new =
-        counted-set objects i known.object new calls behind at in
+    counted-set objects i known.object new calls behind at in
     let none : live_size new ≡ 0 = rw dies refl in
-    let cells : size ≡ length known.object.cells = rw (sized, dies, same) refl in
-    (omega (arith, before.sum), record {
+    let cells : size ≡ length known.object.cells = rw (sized, dies, same) refl in (
+      omega (arith, before.sum),
+      record {
         messages = omega (arith, before.messages, length-set {A = Object});
         few = omega (arith, before.few, length-set {A = Object});
         sum = omega (arith, before.sum);
-        within = omega (arith, before.within) })
+        within = omega (arith, before.within);
+      },
+    )

@@ -10,7 +10,7 @@ pub record LiveAt (objects : List Object) (number : ℕ) : Type 0 where
   pub own : object_of objects number ≡ Some object
   pub live : object.live ≡ true
 
-numbered_same : (number : ℕ) (o p : Object) → numbered number o ≡ Some p → p ≡ o
+pub numbered_same : (number : ℕ) (o p : Object) → numbered number o ≡ Some p → p ≡ o
 numbered_same number o p h =
     elim (number_of o.class (place_of number + 1) == number) as (λ b. (cond b (Some o) None ≡ Some p) → p ≡ o) [ true ↦ λ e. cc | false ↦ λ e. cc ] h
 

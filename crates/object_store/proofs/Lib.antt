@@ -2,3 +2,5 @@ pub mod CellLists
 pub mod Counting
 pub mod Found
 pub mod Positions
+pub mod ReachRows
+pub mod RangeLemmas

@@ -3,3 +3,6 @@ pub mod Storage
 pub mod Messages
 pub mod Steps
 pub mod Reach
+pub mod Marks
+pub mod Ranges
+pub mod Load

@@ -1,5 +1,5 @@
 -- Whether an access reaches its range, or which critical case it is (L.3p2).
-use Rattle.std.specs.Prelude.{◌≡◌, ℕ, ◌+◌, ◌-◌, ◌%◌, ◌==◌, nat_lt, Bool, true, false, not, ◌&&◌, ◌||◌, List, [], ◌∷◌, length, Option, Some, None, is_none, IsTrue, if◌then◌else◌}
+use Rattle.std.specs.Prelude.{◌≡◌, ℕ, ◌+◌, ◌-◌, ◌%◌, ◌==◌, nat_lt, Bool, true, false, not, ◌&&◌, ◌||◌, List, [], ◌∷◌, length, Option, Some, None, is_none, IsTrue, Result, MatchResult, if◌then◌else◌}
 use Rattle.std.specs.Option.{option_map_or, option_or}
 use Rattle.std.specs.List.{list_any}
 use Rattle.critical_table.specs.declared.case.Case.{Case}
@@ -115,6 +115,10 @@ access s place len align = record { object = object_of s.objects place.object; p
 abbrev pub reach : Storage → Pointer → ℕ → ℕ → By → Option Case
 reach s place len align by = first_case reach_table (access s place len align) by
 
+-- the answer is this case, or good where there is none
+abbrev pub Tells : Result (Unit {0}) Case → Option Case → Type 0
+Tells answer found = MatchResult answer (λ _. found ≡ None) (λ case. found ≡ Some case)
+
 -- whether an access of this kind stores
 abbrev pub stores : By → Bool
 stores Store = true
@@ -123,10 +127,14 @@ stores OtherWrite = true
 stores _ = false
 
 -- the range is reached, at some alignment, by some kind of access
-abbrev pub IsReached : Storage → Pointer → ℕ → Type 0
-IsReached s place len = (align : ℕ) × ((by : By) × (reach s place len align by ≡ None))
+pub record IsReached (s : Storage) (place : Pointer) (len : ℕ) : Type 0 where
+  pub align : ℕ
+  pub by : By
+  pub reached : reach s place len align by ≡ None
 
 -- the same, by a kind of access that stores
-abbrev pub IsReachedToStore : Storage → Pointer → ℕ → Type 0
-IsReachedToStore s place len =
-    (align : ℕ) × ((by : By) × (IsTrue (stores by) × (reach s place len align by ≡ None)))
+pub record IsReachedToStore (s : Storage) (place : Pointer) (len : ℕ) : Type 0 where
+  pub align : ℕ
+  pub by : By
+  pub storing : IsTrue (stores by)
+  pub reached : reach s place len align by ≡ None

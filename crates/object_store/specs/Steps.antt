@@ -26,15 +26,13 @@ abbrev pub with_new : Storage → ℕ → Class → Storage
 with_new s size class = record s { objects = s.objects ++ new_object size class ∷ [] }
 
 -- the object with this number is changed
-abbrev pub with_changed : Storage → ℕ → (Object → Object) → Storage
-with_changed s number change = record s {
-  objects =
-      option_map_or (λ o. slice_set s.objects (place_of number) (change o)) (slice_get s.objects (place_of number)) s.objects;
-}
+abbrev pub changed : List Object → ℕ → (Object → Object) → List Object
+changed objects number change =
+    option_map_or (λ o. slice_set objects (place_of number) (change o)) (slice_get objects (place_of number)) objects
 
 -- the lifetime of the object ends
 abbrev pub with_dead : Storage → ℕ → Storage
-with_dead s number = with_changed s number (λ o. record o { live = false })
+with_dead s number = record s { objects = changed s.objects number (λ o. record o { live = false }) }
 
 -- the cells from a place on are replaced by as many others
 abbrev pub with_cells : List Cell → ℕ → List Cell → List Cell
@@ -50,8 +48,10 @@ marked mark c = record c { mark = mark }
 
 -- the cells of a range get a mark
 abbrev pub with_mark : Storage → ℕ → ℕ → ℕ → Mark → Storage
-with_mark s number at len mark = with_changed s number
-    (λ o. record o { cells = with_cells o.cells at (map (marked mark) (range o.cells at len)) })
+with_mark s number at len mark = record s {
+  objects = changed s.objects number
+      (λ o. record o { cells = with_cells o.cells at (map (marked mark) (range o.cells at len)) });
+}
 
 -- a call is entered, and left
 abbrev pub with_call : Storage → Storage
@@ -61,19 +61,28 @@ abbrev pub without_call : Storage → Storage
 without_call s = record s { open_calls = s.open_calls - 1 }
 
 -- the cells of the object that has this number
-abbrev pub cells_of : Storage → ℕ → List Cell
-cells_of s number = option_map_or (λ o. o.cells) (object_of s.objects number) []
+abbrev pub cells_of : List Object → ℕ → List Cell
+cells_of objects number = option_map_or (λ o. o.cells) (object_of objects number) []
 
 -- the bytes that a range holds; none where a cell is indeterminate
+abbrev pub bytes_in : List Object → Pointer → ℕ → List (Option ℕ)
+bytes_in objects place len = map (λ c. c.byte) (range (cells_of objects place.object) place.offset len)
+
 abbrev pub bytes_at : Storage → Pointer → ℕ → List (Option ℕ)
-bytes_at s place len = map (λ c. c.byte) (range (cells_of s place.object) place.offset len)
+bytes_at s place len = bytes_in s.objects place len
+
+-- the cells from the pointer's place on are replaced by cells with these bytes
+abbrev pub written : List Object → Pointer → List (Option ℕ) → List Object
+written objects place bytes = changed objects place.object
+    (λ o. record o { cells = with_cells o.cells place.offset (map stored_cell bytes) })
 
 -- A store: the cells of the range are replaced, and the store is noted. One of no bytes changes nothing, and is none.
 unfoldable pub stored : Storage → Pointer → List (Option ℕ) → Storage
 stored s place [] = s
-stored s place (b ∷ bytes) = record (with_changed s place.object
-    (λ o. record o { cells = with_cells o.cells place.offset (map stored_cell (b ∷ bytes)) }))
-    { writes = s.writes ++ record { object = place.object; at = place.offset; len = length (b ∷ bytes) } ∷ [] }
+stored s place (b ∷ bytes) = record s {
+  objects = written s.objects place (b ∷ bytes);
+  writes = s.writes ++ record { object = place.object; at = place.offset; len = length (b ∷ bytes) } ∷ [];
+}
 
 -- whether a byte is known, and 0
 abbrev pub is_null : Option ℕ → Bool

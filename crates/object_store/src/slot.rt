@@ -1,4 +1,5 @@
 ghost use Rattle.std.specs.Prelude.{◌≡◌, ◌+◌, ◌≤◌, ◌<◌, true, false, Some, IfOk, length, map, replicate};
+ghost use Rattle.object_store.specs.Object.{place_of};
 
 use crate::cell::Cell;
 use crate::cells::{copy_bytes, fill_byte, mark_cells, move_bytes, put_bytes};
@@ -120,4 +121,11 @@ impl Slot {
     {
         move_bytes(&mut self.cells, to, from, len);
     }
+}
+
+/// Where in the list an object with this number stands.
+pub(crate) fn index_of(object: u32) -> usize
+    ensures { result ≡ place_of object }
+{
+    (object / 2).saturating_sub(1) as usize
 }

@@ -1,14 +1,16 @@
 ghost use Rattle.std.specs.Prelude.{◌≡◌, ◌+◌, ◌-◌, ◌*◌, ◌<◌, ◌≤◌, ◌↔◌, [], Some, None, IfOk, IsErr, IsErrOf, OnOk, OnErr, IsTrue, option_copied, length, map, replicate};
-ghost use Rattle.object_store.specs.Object.{place_of};
 
+use crate::by::By;
 use crate::class::Class;
 use crate::fault::{MakeFault, OverBytes};
 use crate::mark::Mark;
 use crate::messages::messages;
 use crate::pointer::Pointer;
-use crate::slot::Slot;
+use crate::ranges::{cells_at, copy_at, fill_at, put_at};
+use crate::slot::{Slot, index_of};
 use crate::view::View;
 use crate::writes::{Write, Writes};
+use critical_table::Case;
 use std::alloc::{AllocError, Global};
 use std::marker::Model;
 use std::mem;
@@ -43,6 +45,7 @@ impl Model for Store {
 impl Store {
     ghost use Rattle.object_store.specs.Object.{number_of, place_of, object_of};
     ghost use Rattle.object_store.specs.Storage.{is_live, live_bytes, fits};
+    ghost use Rattle.object_store.specs.Reach.{Tells, reach, stores, IsReached, IsReachedToStore};
     ghost use Rattle.object_store.specs.Messages.{fresh_store};
     ghost use Rattle.object_store.specs.Steps.{next_number, with_new, with_dead, with_mark, with_call, without_call, cells_of, bytes_at, stored};
 
@@ -104,7 +107,7 @@ impl Store {
     /// Gives the bytes of a range of a live object a mark.
     pub fn seal(&mut self, object: u32, at: u32, len: u32, mark: Mark)
         requires live { IsTrue (is_live self.old object) }
-        requires range { at + len ≤ length (cells_of self.old object) }
+        requires range { at + len ≤ length (cells_of self.old.objects object) }
         ensures { self.new ≡ with_mark self.old object at len mark }
     {
         let slot = &mut self.slots[index_of(object)];
@@ -165,6 +168,80 @@ impl Store {
         size <= self.budget - self.live.saturating_sub(released)
     }
 
+    /// Answers the critical case of Annex L that an access is, or that it reaches its range: the first row of the table of
+    /// reaches that holds, in the column of `by`.
+    #[tactic(auto, unfolding(crate::specs::Reach::reach_table))]
+    pub fn reach(&self, place: Pointer, len: u32, align: u32, by: By) -> Result<(), Case>
+        ensures table { Tells result (reach self.now place len align by) }
+        ensures reached { OnOk result (IsReached self.now place len) }
+        ensures stores { OnOk result (IsTrue (stores by) → IsReachedToStore self.now place len) }
+    {
+        match self.find(place.object) {
+            Some(slot) => slot.reach(place, len, align, by),
+            None => Err(by.invalid()),
+        }
+    }
+
+    /// The bytes of a range that was reached, as they stand in the store: nothing is copied.
+    pub fn view(&self, place: Pointer, len: u32) -> View<'_>
+        requires { IsReached self.now place len }
+        ensures { result ≡ bytes_at self.now place len }
+    {
+        View::new(cells_at(&self.slots, place, len))
+    }
+
+    /// Stores the bytes in a range that was reached by an access that stores.
+    pub fn put(&mut self, place: Pointer, bytes: &[u8])
+        requires reached { IsReachedToStore self.old place (length bytes.now) }
+        requires room { 0 < length bytes.now → length self.old.writes < 4 }
+        ensures { self.new ≡ stored self.old place (map Some bytes.now) }
+    {
+        if bytes.is_empty() {
+            return;
+        }
+        put_at(&mut self.slots, place, bytes);
+        self.writes.push(Write {
+            object: place.object,
+            at: place.offset,
+            len: bytes.len() as u32,
+        });
+    }
+
+    /// Stores one byte everywhere in a range that was reached by an access that stores.
+    pub fn fill(&mut self, place: Pointer, len: u32, byte: u8)
+        requires reached { IsReachedToStore self.old place len }
+        requires room { 0 < len → length self.old.writes < 4 }
+        ensures { self.new ≡ stored self.old place (replicate len (Some byte)) }
+    {
+        if len == 0 {
+            return;
+        }
+        fill_at(&mut self.slots, place, len, byte);
+        self.writes.push(Write {
+            object: place.object,
+            at: place.offset,
+            len,
+        });
+    }
+
+    /// Moves the bytes of one range to another, as if through a second copy; the indeterminate ones stay indeterminate.
+    pub fn copy_within(&mut self, to: Pointer, from: Pointer, len: u32)
+        requires to { IsReachedToStore self.old to len }
+        requires from { IsReached self.old from len }
+        requires room { 0 < len → length self.old.writes < 4 }
+        ensures { self.new ≡ stored self.old to (bytes_at self.old from len) }
+    {
+        if len == 0 {
+            return;
+        }
+        copy_at(&mut self.slots, self.alloc, to, from, len);
+        self.writes.push(Write {
+            object: to.object,
+            at: to.offset,
+            len,
+        });
+    }
+
     /// Hands over the stores since this was last called, in order; those of length 0 are none.
     pub fn taken(&mut self) -> Writes
         ensures given { result ≡ self.old.writes }
@@ -185,11 +262,4 @@ impl Store {
             None
         }
     }
-}
-
-/// Where in the list an object with this number stands.
-fn index_of(object: u32) -> usize
-    ensures { result ≡ place_of object }
-{
-    (object / 2).saturating_sub(1) as usize
 }

@@ -8,7 +8,7 @@ use std::marker::Model;
 /// indeterminate one.
 #[derive(Drop)]
 pub struct View<'a> {
-    cells: &'a [Cell],
+    pub(crate) cells: &'a [Cell],
 }
 
 impl<'a> Model for View<'a> {

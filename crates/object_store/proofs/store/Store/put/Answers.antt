@@ -1,0 +1,33 @@
+-- A range that was reached lies in its object, and a store there leaves the count as it is.
+use Rattle.std.proofs.Common.{◌≡◌, ℕ, ◌<◌, length, map, replicate, List, Option, Some, arith, sym, rules}
+use Rattle.std.proofs.lemmas.Grind.{common_steps}
+use Rattle.std.proofs.lemmas.List.{length-map, length-replicate}
+use Rattle.object_store.specs.Storage.{Storage}
+use Rattle.object_store.specs.Steps.{bytes_in}
+use Rattle.object_store.specs.Ranges.{InRange}
+use Rattle.object_store.proofs.RangeLemmas.{in_range, in_range_to_store, IsCounted-written, stored_step, stored_none, length-bytes_in}
+use Rattle.object_store.proofs.store.Store.put.Goals as goal
+
+pub returns-then-is_empty : goal.returns-then-is_empty
+returns-then-is_empty c = stored_none c.args.self.now c.args.place (map Some c.args.bytes.now) (rw length-map (search rules))
+
+pub put_at-requires : goal.put_at-requires
+put_at-requires c = rw (← c.self.view_is) at (in_range_to_store c.args.self.now c.args.place (length c.args.bytes.now) c.requires.reached)
+
+pub invariant_of-self : goal.invariant_of-self
+invariant_of-self c =
+    let r = rw (← c.self.view_is) at (in_range_to_store c.args.self.now c.args.place (length c.args.bytes.now) c.requires.reached) in
+    rw c.put_at.ensures (IsCounted-written c.self.inside.slots.items c.args.place (map Some c.args.bytes.now) (length c.args.bytes.now) c.self.inside.budget
+    c.self.inside.live c.self.inside.open_calls r (sym (length-map c.args.bytes.now (λ b. Some b))) c.self.invariant)
+
+pub returns : goal.returns
+returns c =
+    let s : Storage = record { objects = c.self.inside.slots.items; budget = c.self.inside.budget; open_calls = c.self.inside.open_calls; writes = c.self.inside.writes } in
+    rw (← c.self.view_is) (stored_step s c.args.place (map Some c.args.bytes.now) c.put_at.new.slots.items c.push.new.self (length c.args.bytes.now)
+    (grind (arith, common_steps)) (sym (length-map c.args.bytes.now (λ b. Some b))) c.put_at.ensures c.push.ensures)
+
+pub overflow_cast-bytes : goal.overflow_cast-bytes
+overflow_cast-bytes c =
+    let r : InRange c.args.self.now.objects c.args.place (length c.args.bytes.now) =
+    in_range_to_store c.args.self.now c.args.place (length c.args.bytes.now) c.requires.reached in
+    omega (arith, r.within)
