@@ -8,7 +8,7 @@ use Rattle.critical_table.specs.declared.ended.Ended.{Ended}
 use Rattle.critical_table.specs.declared.ended.Ended.TheVariants.{Exited, Aborted, Trapped, Undefined, OutOfTicks, OutOfBytes, ReadFault, WriteFault, ShelfFault, Refused, Usage, Printed, Memory}
 use Rattle.critical_table.specs.Report.{report_of}
 use Rattle.acc_run.specs.Job.{Table, job_of}
-use Rattle.acc_run.specs.Answer.{Seen, HasFailed, IsSound, Comes, Answers, table_text}
+use Rattle.acc_run.specs.Answer.{Seen, HasFailed, KeepsCount, Comes, Answers, table_text}
 use Rattle.acc_run.specs.Steps.{Performs, PerformsTable, Reports}
 use Rattle.acc_run.proofs.Parts.{all_written}
 
@@ -32,7 +32,7 @@ performs_table words shelf out answer job (inr failed) =
 module _ (words : List (List ℕ)) (shelf : Seen Held) where
   -- all the output that is due
   abbrev Done : Seen (List ℕ) → Ended → Type 0
-  Done out ended = IsSound out × ((output : List ℕ) × Comes words shelf ended output × Gains out.before out.after output)
+  Done out ended = KeepsCount out × ((output : List ℕ) × Comes words shelf ended output × Gains out.before out.after output)
 
   -- unless a write failed all the output is written
   performed : (out : Seen (List ℕ)) (ended : Ended) → ended ≢ WriteFault → Performs words shelf out ended → Done out ended
@@ -51,7 +51,7 @@ module _ (words : List (List ℕ)) (shelf : Seen Held) where
   performed out Memory not_fault performs = performs
 
   -- with its report
-  reported : (out err : Seen (List ℕ)) (ended : Ended) → ended ≢ WriteFault → Done out ended → IsSound err → Gains err.before err.after (report_of ended) → Answers words shelf out err ended
+  reported : (out err : Seen (List ℕ)) (ended : Ended) → ended ≢ WriteFault → Done out ended → KeepsCount err → Gains err.before err.after (report_of ended) → Answers words shelf out err ended
   reported out err WriteFault not_fault done sound gains = absurd (not_fault refl)
   reported out err (Exited n) not_fault done sound gains = (done.0, sound, (done.1.0, done.1.1, done.1.2, gains))
   reported out err Aborted not_fault done sound gains = (done.0, sound, (done.1.0, done.1.1, done.1.2, gains))

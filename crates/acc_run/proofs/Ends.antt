@@ -53,7 +53,7 @@ becomes_file file bytes outcome (inr long) (inl accepted) =
 becomes_file file bytes outcome (inr long) (inr refused) =
     inr ((λ form is. let short = unit_is_short form file is in let parts : length file ≡ length bytes + length long.0 = ap length long.1 ∙ length-append bytes long.0 in omega arith), refused.1)
 
-some_injective : {x y : List ℕ} → Some x ≡ Some y → x ≡ y
+pub some_injective : {x y : List ℕ} → Some x ≡ Some y → x ≡ y
 some_injective e = cc
 
 -- the unit that the shelf gave: the file where it tells its files, else what was read

@@ -1,5 +1,6 @@
 pub mod Assembled
 pub mod Ends
+pub mod Exact
 pub mod Fronts
 pub mod Lengths
 pub mod Loaded

@@ -6,12 +6,10 @@ use Rattle.std.proofs.lemmas.Grind.{flat_map-append}
 use Rattle.std.proofs.lemmas.List.{take-append-drop}
 use Rattle.critical_table.specs.Table.{table_lines}
 use Rattle.acc_run.specs.Answer.{table_text}
+use Rattle.acc_run.proofs.Ends.{some_injective}
 
 abbrev pub text_of : List (List ℕ) → List ℕ
 text_of lines = flat_map (λ line. line) lines
-
-some_injective : {x y : List ℕ} → Some x ≡ Some y → x ≡ y
-some_injective e = cc
 
 more : (lines : List (List ℕ)) (i : ℕ) (line : List ℕ) → slice_get lines i ≡ Some line → text_of (take i lines) ++ line ≡ text_of (take (suc i) lines)
 more [] i line at = cc

@@ -29,8 +29,8 @@ abbrev pub HasFailed : {T : Type 0} → Seen T → Type 0
 HasFailed object = Rose object.faults_before object.faults_after
 
 -- its count is as it was
-abbrev pub IsSound : {T : Type 0} → Seen T → Type 0
-IsSound object = object.faults_after ≡ object.faults_before
+abbrev pub KeepsCount : {T : Type 0} → Seen T → Type 0
+KeepsCount object = object.faults_after ≡ object.faults_before
 
 -- The shelf gave this unit for the file: where the shelf tells its files, the first one of that name.
 abbrev pub HasUnit : Option Held → List ℕ → List ℕ → Type 0
@@ -69,7 +69,7 @@ Answers words shelf out err WriteFault =
     × ((due : Ended) × (output : List ℕ) × Comes words shelf due output
     × GainsPart out.before out.after output × GainsPart err.before err.after (report_of due))
 Answers words shelf out err ended =
-    IsSound out × IsSound err
+    KeepsCount out × KeepsCount err
     × ((output : List ℕ) × Comes words shelf ended output
     × Gains out.before out.after output × Gains err.before err.after (report_of ended))
 
@@ -79,6 +79,12 @@ IsDue None told outcome = outcome ≡ record { ended = Usage; output = [] }
 IsDue (Some Table) told outcome = outcome ≡ record { ended = Printed; output = table_text }
 IsDue (Some (Run file)) told outcome =
     (held : Held) × (unit : List ℕ) × (told ≡ Some held) × (file_of held.files file ≡ Some unit) × Becomes unit outcome
+
+-- The answer is what is due, and all of its output and its report is written.
+pub record IsTold (outcome : Outcome) (out err : Seen (List ℕ)) (answer : Ended) : Type 0 where
+  pub end : answer ≡ outcome.ended
+  pub output : Gains out.before out.after outcome.output
+  pub report : Gains err.before err.after (report_of outcome.ended)
 
 -- Over a shelf that doesn't fail, and sinks with room for 200 bytes more than the text, the answer is what is due,
 -- unless memory ran out.

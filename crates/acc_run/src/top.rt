@@ -1,10 +1,12 @@
 //! The top call.
 
-ghost use Rattle.std.specs.Prelude.{◌≡◌, ◌⊎◌, ℕ, ◌+◌, ◌≤◌, length};
+ghost use Rattle.std.specs.Prelude.{◌≡◌, ◌⊎◌, ℕ, ◌+◌, ◌≤◌, List, length};
 ghost use Rattle.critical_table.specs.declared.ended.Ended.TheVariants.{Memory};
+ghost use Rattle.acc_io.specs.Held.{Held};
+ghost use Rattle.critical_table.specs.declared.ended.Ended.{Ended};
 ghost use Rattle.acc_run.specs.Job.{job_of as the_job};
 ghost use Rattle.acc_run.specs.Meaning.{Outcome};
-ghost use Rattle.acc_run.specs.Answer.{Answers, IsComplete, IsDue, seen};
+ghost use Rattle.acc_run.specs.Answer.{Answers, HasFailed, IsComplete, IsDue, IsTold, Seen, seen};
 ghost use Rattle.acc_run.specs.Steps.{Performs};
 
 use crate::case_table::table;
@@ -64,4 +66,14 @@ pub fn acc_main<S: Shelf, I: Source, O: Sink, E: Sink>(
     let ended = perform(alloc, words, shelf, &mut out);
     let ended = report(ended, &mut out, &mut err);
     (ended, Streams { input, out, err })
+}
+
+/// The contract of `acc_main` read forwards: where no count rose, its answer is what is due to the words and the
+/// shelf, and all of it is written, or memory ran out.
+pub fn exact()
+    ensures { (words : List (List ℕ)) (shelf : Seen Held) (out err : Seen (List ℕ)) (outcome : Outcome) (answer : Ended) →
+        Answers words shelf out err answer → IsDue (the_job words) shelf.before outcome →
+        (HasFailed shelf → ⊥) → (HasFailed out → ⊥) → (HasFailed err → ⊥) →
+        (answer ≡ Memory) ⊎ IsTold outcome out err answer }
+{
 }

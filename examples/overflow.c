@@ -1,0 +1,1 @@
+int main(void){putchar(65);putchar(10);return 2147483647+1;}
