@@ -1,5 +1,5 @@
 -- A command and its report make the answer.
-use Rattle.std.proofs.Common.{◌≡◌, ◌≢◌, ℕ, ◌≤◌, List, [], ◌++◌, inl, inr, refl, sym, ◌∙◌, ap, subst, arith, append-nil}
+use Rattle.std.proofs.Common.{◌≡◌, ◌≢◌, ℕ, ◌≤◌, List, inl, inr, refl, sym, ◌∙◌, ap, subst, arith, append-nil}
 use Rattle.std.specs.Prelude.{◌⊎◌, Option, Some, None}
 use Rattle.acc_io.specs.Cause.{Rose}
 use Rattle.acc_io.specs.Bytes.{Gains, GainsPart}

@@ -1,5 +1,5 @@
 -- Which ends come of a unit, and that one comes.
-use Rattle.std.proofs.Common.{◌≡◌, ◌≢◌, ℕ, ◌+◌, ◌<◌, ◌≤◌, List, [], ◌∷◌, ◌++◌, length, inl, inr, refl, sym, ◌∙◌, ap, subst, arith, length-append}
+use Rattle.std.proofs.Common.{◌≡◌, ◌≢◌, ℕ, ◌+◌, ◌≤◌, List, [], ◌∷◌, ◌++◌, length, inl, inr, refl, sym, ◌∙◌, ap, subst, arith, length-append}
 use Rattle.std.specs.Prelude.{◌⊎◌, ℤ, pos, Option, Some, None, IfSome, Result, Ok, Err}
 use Rattle.acc_num.specs.declared.kind.IntKind.TheVariants.{I32}
 use Rattle.acc_num.specs.declared.fault.NumFault.{NumFault}
@@ -8,7 +8,7 @@ use Rattle.acc_io.specs.Held.{Held, file_of}
 use Rattle.critical_table.specs.declared.pos.Pos.{Pos}
 use Rattle.critical_table.specs.declared.ended.Ended.{Ended}
 use Rattle.critical_table.specs.declared.ended.Ended.TheVariants.{Exited, Aborted, Trapped, Undefined, OutOfTicks, OutOfBytes, ReadFault, WriteFault, ShelfFault, Refused, Usage, Printed, Memory}
-use Rattle.acc_run.specs.Program.{Form, IsUnit, plus_term, spelling, longest_unit}
+use Rattle.acc_run.specs.Program.{Form, IsUnit, plus_term, longest_unit}
 use Rattle.acc_run.specs.Meaning.{Outcome, sum_from, with_sum, place_behind, meaning_of}
 use Rattle.acc_run.specs.Job.{Run, job_of}
 use Rattle.acc_run.specs.Loading.{ReadsFile}

@@ -1,5 +1,5 @@
 -- A front of the bytes is read in one way: numerals, calls and summands.
-use Rattle.std.proofs.Common.{inl, inr, ◌≡◌, ℕ, zero, suc, ◌+◌, ◌^◌, ◌<◌, ◌≤◌, List, [], ◌∷◌, ◌++◌, true, false, length, get_or, take, drop, refl, sym, ◌∙◌, ap, subst, arith, append_assoc, drop-cons, add-one}
+use Rattle.std.proofs.Common.{inl, inr, ◌≡◌, ℕ, zero, suc, ◌+◌, ◌^◌, ◌<◌, ◌≤◌, List, [], ◌∷◌, ◌++◌, true, false, length, get_or, take, drop, refl, sym, ◌∙◌, ap, subst, arith, append_assoc, drop-cons}
 use Rattle.std.proofs.lemmas.Bool.{and_parts, and_from, both_ways, cases_lt}
 use Rattle.std.proofs.lemmas.List.{take_more, append_cancel_left}
 use Rattle.std.proofs.lemmas.Str.Parse.{IsNumeralModel, numerals_by_value, tells_all_ascii_digits, parse_digits}
@@ -16,7 +16,7 @@ use Rattle.std.proofs.lemmas.Slice.Eq.{strip_prefix_is}
 use Rattle.std.specs.Borrow.{Bor}
 use lib.Pointwise.{pointwise}
 use Rattle.acc_run.specs.Program.{greatest_constant, putchar_call, plus_term}
-use Rattle.acc_run.specs.Reading.{EndsNumeral, EndsCalls, EndsSum}
+use Rattle.acc_run.specs.Reading.{EndsNumeral, EndsCalls}
 
 -- the texts of digits, and their values
 pub own : IsNumeralModel (λ ds. all_ascii_digits ds ≡ true) (digits_value 10)

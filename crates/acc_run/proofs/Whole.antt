@@ -1,11 +1,11 @@
 -- A unit is read in one way.
-use Rattle.std.proofs.Common.{◌≡◌, ℕ, ◌+◌, ◌<◌, ◌≤◌, List, [], ◌∷◌, ◌++◌, length, get_or, refl, sym, ◌∙◌, ap, subst, arith, append_assoc}
+use Rattle.std.proofs.Common.{◌≡◌, ℕ, ◌≤◌, List, [], ◌∷◌, ◌++◌, length, get_or, refl, sym, ◌∙◌, ap, subst, arith, append_assoc}
 use Rattle.std.proofs.lemmas.List.{append_cancel_left}
 use Rattle.std.proofs.lemmas.List.Elements.{recursion_from_All}
 use Rattle.std.specs.List.{flat_map, All, AllByRecursion}
 use Rattle.std.specs.Prelude.{codes}
 use Rattle.std.specs.Fmt.{decimal}
-use Rattle.acc_run.specs.Program.{Form, IsUnit, Fits, greatest_constant, longest_unit, putchar_call, plus_term, before_sum, spelling}
+use Rattle.acc_run.specs.Program.{Form, IsUnit, greatest_constant, longest_unit, putchar_call, plus_term, spelling}
 use Rattle.acc_run.specs.Reading.{EndsNumeral, EndsCalls, EndsSum}
 use Rattle.acc_run.proofs.Fronts.{number_front, call_front, term_front}
 

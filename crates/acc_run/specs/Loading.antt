@@ -1,6 +1,6 @@
 -- How much of a file is read.
-use Rattle.std.specs.Prelude.{◌≡◌, ◌⊎◌, ℕ, ◌+◌, ◌<◌, List, [], ◌++◌, length, Option, Some, IfSome}
-use Rattle.acc_io.specs.Held.{Held, file_of}
+use Rattle.std.specs.Prelude.{◌≡◌, ◌⊎◌, ℕ, ◌+◌, ◌<◌, List, ◌++◌, length, Option, Some, IfSome}
+use Rattle.acc_io.specs.Held.{Held}
 use Rattle.acc_run.specs.Program.{longest_unit}
 
 -- one byte more than the longest unit, which tells that a file is longer

@@ -1,7 +1,6 @@
 -- What ends a part of a unit, so that the part before it is the longest that can stand there.
 use Rattle.std.specs.Prelude.{◌≡◌, ℕ, ◌≤◌, false, List, [], ◌∷◌, ◌++◌}
 use Rattle.std.specs.Char.{is_ascii_digit}
-use Rattle.std.specs.Fmt.{decimal}
 use Rattle.acc_run.specs.Program.{putchar_call, plus_term, greatest_constant}
 
 -- no digit stands at the front

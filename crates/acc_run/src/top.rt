@@ -75,5 +75,4 @@ pub fn exact()
         Answers words shelf out err answer → IsDue (the_job words) shelf.before outcome →
         (HasFailed shelf → ⊥) → (HasFailed out → ⊥) → (HasFailed err → ⊥) →
         (answer ≡ Memory) ⊎ IsTold outcome out err answer }
-{
-}
+{}

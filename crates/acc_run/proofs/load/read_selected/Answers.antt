@@ -1,4 +1,4 @@
-use Rattle.std.proofs.Common.{◌≡◌, ◌≤◌, length, ◌∙◌, arith, rules}
+use Rattle.std.proofs.Common.{◌≤◌, length, ◌∙◌, arith}
 use Rattle.acc_run.specs.Loading.{most_read}
 use Rattle.acc_run.proofs.Loaded.{read_none, read_to_end, read_to_limit}
 use Rattle.acc_run.proofs.load.read_selected.Goals as goal

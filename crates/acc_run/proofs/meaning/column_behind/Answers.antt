@@ -1,4 +1,4 @@
-use Rattle.std.proofs.Common.{◌≤◌, ◌+◌, length, get_or, arith}
+use Rattle.std.proofs.Common.{get_or, arith}
 use Rattle.acc_run.specs.Program.{putchar_call}
 use Rattle.acc_run.proofs.Lengths.{length_call, length_front}
 use Rattle.acc_run.proofs.meaning.column_behind.Goals as goal

@@ -1,4 +1,4 @@
-use Rattle.std.proofs.Common.{◌≡◌, ℕ, ◌<◌, ◌^◌, ◌≤◌, sym, ◌∙◌, subst, length, get_or, arith, Ok}
+use Rattle.std.proofs.Common.{◌≡◌, ◌<◌, ◌∙◌, subst, length, get_or, arith}
 use Rattle.std.proofs.lemmas.Fmt.{parse-decimal}
 use Rattle.acc_run.proofs.Fronts.{no_leading_zero, digits_are_text, parsed_prints}
 use Rattle.acc_run.proofs.reading.numeral.Goals as goal

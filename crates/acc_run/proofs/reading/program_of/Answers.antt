@@ -1,5 +1,5 @@
 -- Each refusal: the parts that were read are those of any unit that the bytes would spell.
-use Rattle.std.proofs.Common.{◌≡◌, List, ℕ, codes, sym, ◌∙◌, refl}
+use Rattle.std.proofs.Common.{◌≡◌, codes, sym, ◌∙◌, refl}
 use Rattle.std.proofs.lemmas.Bool.{false≢true}
 use Rattle.std.proofs.lemmas.List.{append_cancel_left}
 use Rattle.acc_run.proofs.Whole.{has_head, behind_calls, behind_first, behind_terms, term_ends, assembled, sum_text, terms_text}
