@@ -5,9 +5,8 @@ use acc_io::{FileShelf, MemSource, Streams, WriteSink};
 use acc_run::{Words, acc_main};
 use critical_table::{Ended, status_of};
 use std::alloc::AllocError;
-use std::env;
-use std::io;
 use std::process::ExitCode;
+use std::{env, io};
 
 /// The words of the command line; none where one of them is not UTF-8, which no command takes.
 fn command_line(rt: &HostRuntime) -> Result<Words, AllocError> {
