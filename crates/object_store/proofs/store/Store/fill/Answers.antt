@@ -7,8 +7,8 @@ use Rattle.object_store.specs.Ranges.{InRange}
 use Rattle.object_store.proofs.RangeLemmas.{in_range, in_range_to_store, IsCounted-written, stored_step, stored_none, length-bytes_in}
 use Rattle.object_store.proofs.store.Store.fill.Goals as goal
 
-pub returns-then-len-eq0 : goal.returns-then-len-eq0
-returns-then-len-eq0 c = stored_none c.args.self.now c.args.place (replicate c.args.len (Some c.args.byte)) (rw length-replicate (omega arith))
+pub returns-then-len-eq0-clause-stored : goal.returns-then-len-eq0-clause-stored
+returns-then-len-eq0-clause-stored c = stored_none c.args.self.now c.args.place (replicate c.args.len (Some c.args.byte)) (rw length-replicate (omega arith))
 
 pub fill_at-requires : goal.fill_at-requires
 fill_at-requires c = rw (← c.self.view_is) at (in_range_to_store c.args.self.now c.args.place c.args.len c.requires.reached)
@@ -19,8 +19,8 @@ invariant_of-self c =
     rw c.fill_at.ensures (IsCounted-written c.self.inside.slots.items c.args.place (replicate c.args.len (Some c.args.byte)) c.args.len c.self.inside.budget
     c.self.inside.live c.self.inside.open_calls r (sym (length-replicate c.args.len (Some c.args.byte))) c.self.invariant)
 
-pub returns : goal.returns
-returns c =
+pub returns-clause-stored : goal.returns-clause-stored
+returns-clause-stored c =
     let s : Storage = record { objects = c.self.inside.slots.items; budget = c.self.inside.budget; open_calls = c.self.inside.open_calls; writes = c.self.inside.writes } in
     rw (← c.self.view_is) (stored_step s c.args.place (replicate c.args.len (Some c.args.byte)) c.fill_at.new.slots.items c.push.new.self c.args.len
     (omega arith) (sym (length-replicate c.args.len (Some c.args.byte))) c.fill_at.ensures c.push.ensures)
