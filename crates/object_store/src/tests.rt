@@ -2,6 +2,7 @@ ghost use Rattle.std.specs.Prelude.{◌≡◌, ◌+◌, ◌<◌, ◌≤◌, leng
 
 use super::*;
 use critical_table::{Case, Code};
+use std::alloc::Global;
 use std::process::Abort;
 use std::test::Fail;
 
@@ -59,10 +60,10 @@ fn expect_full(rt: &impl Abort, store: &mut Store, size: u32)
     );
 }
 
-fn empty_store(rt: &HostRuntime, bytes: u64) -> Store
+fn empty_store(rt: &impl Abort, alloc: Global, bytes: u64) -> Store
     ensures { length result.objects ≤ 1 }
 {
-    Store::new(rt.alloc(), bytes).expect(rt, "store")
+    Store::new(alloc, bytes).expect(rt, "store")
 }
 
 fn kill(store: &mut Store, object: u32)
@@ -88,7 +89,7 @@ fn expect_bytes(rt: &impl Abort, store: &Store, place: Pointer, bytes: &[u8]) {
 
 #[test]
 fn reaches_an_object(rt: HostRuntime) {
-    let mut store = empty_store(&rt, 12);
+    let mut store = empty_store(&rt, rt.alloc(), 12);
     assert_eq!(rt; make(&rt, &mut store, 12, Class::Automatic), 4);
     expect_full(&rt, &mut store, 1);
     assert_eq!(rt; store.live_bytes(), 12);
@@ -187,7 +188,7 @@ fn reaches_by_the_table(rt: HostRuntime) -> Result<(), Fail> {
 
 #[test]
 fn copies_as_through_a_second_copy(rt: HostRuntime) {
-    let mut store = empty_store(&rt, 1000);
+    let mut store = empty_store(&rt, rt.alloc(), 1000);
     let text = make(&rt, &mut store, 8, Class::Automatic);
     let other = make(&rt, &mut store, 8, Class::Allocated);
     put(&rt, &mut store, pointer(text, 0, 8), b"abcdef");
@@ -214,7 +215,7 @@ fn copies_as_through_a_second_copy(rt: HostRuntime) {
 
 #[test]
 fn loads_what_was_stored(rt: HostRuntime) {
-    let mut store = empty_store(&rt, 1000);
+    let mut store = empty_store(&rt, rt.alloc(), 1000);
     let object = make(&rt, &mut store, 32, Class::Automatic);
     let stored = Pointer {
         object: 4_200_000_001,
@@ -256,7 +257,7 @@ fn loads_what_was_stored(rt: HostRuntime) {
 
 #[test]
 fn counts_bytes(rt: HostRuntime) {
-    let mut store = empty_store(&rt, 344);
+    let mut store = empty_store(&rt, rt.alloc(), 344);
     let object = make(&rt, &mut store, 88, Class::Allocated);
     store.enter().expect(&rt, "enter");
     assert_eq!(rt; store.live_bytes(), 344);
@@ -270,7 +271,7 @@ fn counts_bytes(rt: HostRuntime) {
     ] {
         assert_eq!(rt; store.fits(released, size), fits, "{released} {size}");
     }
-    let mut store = empty_store(&rt, 344);
+    let mut store = empty_store(&rt, rt.alloc(), 344);
     let first = make(&rt, &mut store, 88, Class::Allocated);
     assert_eq!(rt; first, object);
     expect_full(&rt, &mut store, 257);
@@ -283,7 +284,7 @@ fn counts_bytes(rt: HostRuntime) {
 /// A call that is entered and left counts its bytes meanwhile.
 #[test]
 fn counts_calls(rt: HostRuntime) -> Result<(), Fail> {
-    let mut store = empty_store(&rt, 511);
+    let mut store = empty_store(&rt, rt.alloc(), 511);
     store.enter()?;
     assert_eq!(rt; store.live_bytes(), 256);
     store.leave();
@@ -293,7 +294,7 @@ fn counts_calls(rt: HostRuntime) -> Result<(), Fail> {
 
 #[test]
 fn tells_stores_once(rt: HostRuntime) {
-    let mut store = empty_store(&rt, 100);
+    let mut store = empty_store(&rt, rt.alloc(), 100);
     let object = make(&rt, &mut store, 8, Class::Automatic);
     let none = store.taken();
     assert_eq!(rt; none.len(), 0);

@@ -1,9 +1,7 @@
 -- A range that was reached lies in its object, and a store there leaves the count as it is.
-use Rattle.std.proofs.Common.{◌≡◌, ℕ, ◌<◌, length, map, replicate, List, Option, Some, arith, sym, rules, ◌∙◌}
-use Rattle.std.proofs.lemmas.List.{length-map, length-replicate}
+use Rattle.std.proofs.Common.{arith, sym, ◌∙◌}
 use Rattle.object_store.specs.Storage.{Storage}
 use Rattle.object_store.specs.Steps.{bytes_in}
-use Rattle.object_store.specs.Ranges.{InRange}
 use Rattle.object_store.proofs.RangeLemmas.{in_range, in_range_to_store, IsCounted-written, stored_step, stored_none, length-bytes_in}
 use Rattle.object_store.proofs.store.Store.copy_within.Goals as goal
 
