@@ -2,6 +2,7 @@
 use Rattle.std.proofs.Common.{arith, sym, ◌∙◌}
 use Rattle.object_store.specs.Storage.{Storage}
 use Rattle.object_store.specs.Steps.{bytes_in}
+use Rattle.object_store.proofs.Outside.{stored_alone}
 use Rattle.object_store.proofs.RangeLemmas.{in_range, in_range_to_store, IsCounted-written, stored_step, stored_none, length-bytes_in}
 use Rattle.object_store.proofs.store.Store.copy_within.Goals as goal
 
@@ -25,3 +26,8 @@ returns-clause-stored c =
 
 pub copy_at-requires-clause-from : goal.copy_at-requires-clause-from
 copy_at-requires-clause-from c = rw (← c.self.view_is) at (in_range c.args.self.now c.args.from c.args.len c.requires.from)
+
+pub returns-clause-alone : goal.returns-clause-alone
+returns-clause-alone c =
+    (stored_alone c.args.self.now _ c.args.to (bytes_in c.args.self.now.objects c.args.from c.args.len) c.args.len
+    (in_range_to_store c.args.self.now c.args.to c.args.len c.requires.to) (length-bytes_in c.args.self.now.objects c.args.from c.args.len (in_range c.args.self.now c.args.from c.args.len c.requires.from)) (returns-clause-stored c))

@@ -2,6 +2,7 @@
 use Rattle.std.proofs.Common.{replicate, Some, arith, sym}
 use Rattle.std.proofs.lemmas.List.{length-replicate}
 use Rattle.object_store.specs.Storage.{Storage}
+use Rattle.object_store.proofs.Outside.{stored_alone}
 use Rattle.object_store.proofs.RangeLemmas.{in_range_to_store, IsCounted-written, stored_step, stored_none}
 use Rattle.object_store.proofs.store.Store.fill.Goals as goal
 
@@ -22,3 +23,8 @@ returns-clause-stored c =
     let s : Storage = record { objects = c.self.inside.slots.items; budget = c.self.inside.budget; open_calls = c.self.inside.open_calls; writes = c.self.inside.writes } in
     rw (← c.self.view_is) (stored_step s c.args.place (replicate c.args.len (Some c.args.byte)) c.fill_at.new.slots.items c.push.new.self c.args.len
     (omega arith) (sym (length-replicate c.args.len (Some c.args.byte))) c.fill_at.ensures c.push.ensures)
+
+pub returns-clause-alone : goal.returns-clause-alone
+returns-clause-alone c =
+    (stored_alone c.args.self.now _ c.args.place (replicate c.args.len (Some c.args.byte)) c.args.len
+    (in_range_to_store c.args.self.now c.args.place c.args.len c.requires.reached) (sym (length-replicate c.args.len (Some c.args.byte))) (returns-clause-stored c))

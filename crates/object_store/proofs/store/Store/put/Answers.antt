@@ -4,6 +4,7 @@ use Rattle.std.proofs.lemmas.Grind.{common_steps}
 use Rattle.std.proofs.lemmas.List.{length-map}
 use Rattle.object_store.specs.Storage.{Storage}
 use Rattle.object_store.specs.Ranges.{InRange}
+use Rattle.object_store.proofs.Outside.{stored_alone}
 use Rattle.object_store.proofs.RangeLemmas.{in_range_to_store, IsCounted-written, stored_step, stored_none}
 use Rattle.object_store.proofs.store.Store.put.Goals as goal
 
@@ -30,3 +31,8 @@ overflow_cast-bytes c =
     let r : InRange c.args.self.now.objects c.args.place (length c.args.bytes.now) =
     in_range_to_store c.args.self.now c.args.place (length c.args.bytes.now) c.requires.reached in
     omega (arith, r.within)
+
+pub returns-clause-alone : goal.returns-clause-alone
+returns-clause-alone c =
+    (stored_alone c.args.self.now _ c.args.place (map Some c.args.bytes.now) (length c.args.bytes.now)
+    (in_range_to_store c.args.self.now c.args.place (length c.args.bytes.now) c.requires.reached) (sym (length-map c.args.bytes.now (λ b. Some b))) (returns-clause-stored c))
