@@ -5,3 +5,4 @@ pub mod Positions
 pub mod ReachRows
 pub mod RangeLemmas
 pub mod Outside
+pub mod SameReach
