@@ -6,7 +6,7 @@ use Rattle.std.proofs.lemmas.List.{places, length-map}
 use Rattle.std.proofs.lemmas.Option.{slice_get_cases, slice_get-get_or, slice_get_past}
 use Rattle.object_store.specs.declared.cell.Cell.{Cell}
 use Rattle.object_store.specs.declared.pointer.Pointer.{Pointer}
-use Rattle.object_store.specs.Object.{Object, number_of, place_of, numbered, object_of}
+use Rattle.object_store.specs.Object.{Object, number_of, place_of, numbered}
 use Rattle.object_store.specs.Storage.{Storage}
 use Rattle.object_store.specs.Steps.{with_cells, stored_cell, cells_of, written, stored}
 use Rattle.object_store.specs.Ranges.{InRange}

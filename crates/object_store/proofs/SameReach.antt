@@ -1,22 +1,21 @@
 -- A store leaves every reach as it was: it changes no mark, since the bytes that it may change have none.
-use Rattle.std.proofs.Common.{◌≡◌, ◌≢◌, ℕ, ◌+◌, ◌==◌, ◌||◌, inl, inr, Bool, true, false, cond, List, [], ◌∷◌, ◌++◌, length, map, take, drop, replicate, set, slice_get, Option, Some, None, IsTrue, refl, arith, ap, subst, sym, ◌∙◌, append_assoc}
+use Rattle.std.proofs.Common.{◌≡◌, ◌≢◌, ℕ, ◌+◌, ◌==◌, ◌||◌, inl, inr, Bool, true, false, cond, List, [], ◌∷◌, ◌++◌, length, map, take, drop, replicate, set, slice_get, Option, Some, None, refl, arith, ap, subst, sym, ◌∙◌, append_assoc}
 use Rattle.std.specs.List.{list_any}
-use Rattle.std.specs.Option.{option_map_or, option_and_then}
 use Rattle.std.proofs.lemmas.Bool.{cases_eq}
 use Rattle.std.proofs.lemmas.List.{length-map, map-append, take-append-drop, drop-drop, take-map, drop-map}
-use Rattle.critical_table.specs.declared.case.Case.{Case}
 use Rattle.critical_table.specs.declared.case.Case.TheVariants.{L2, L5, L8}
 use Rattle.object_store.specs.declared.mark.Mark.{Mark}
 use Rattle.object_store.specs.declared.mark.Mark.TheVariants.{Plain, Literal, Const, Clash}
 use Rattle.object_store.specs.declared.cell.Cell.{Cell}
 use Rattle.object_store.specs.declared.by.By.{By}
 use Rattle.object_store.specs.declared.pointer.Pointer.{Pointer}
-use Rattle.object_store.specs.Object.{Object, number_of, place_of, numbered, object_of}
+use Rattle.object_store.specs.Object.{Object, number_of, place_of, object_of}
 use Rattle.object_store.specs.Storage.{Storage}
 use Rattle.object_store.specs.Steps.{with_cells, range, stored_cell, written, stored}
 use Rattle.object_store.specs.Ranges.{InRange}
 use Rattle.object_store.specs.Marks.{marked_case}
 use Rattle.object_store.specs.Reach.{Access, access, cells, first_case, reach_table, reach, is_clash, is_literal, is_const, IsReachedToStore}
+use Rattle.object_store.specs.Changes.{SameReach}
 use Rattle.object_store.proofs.CellLists.{length-range}
 use Rattle.object_store.proofs.ReachRows.{mark_rows}
 use Rattle.object_store.proofs.RangeLemmas.{passed_rows, in_range_to_store, slice_get-set_same, slice_get-set_other, written_at}
@@ -64,9 +63,9 @@ marks-with_cells : (cs : List Cell) (at len : ℕ) (other : List Cell) → lengt
     → marks (with_cells cs at other) ≡ marks cs
 marks-with_cells cs at len other count same =
     let parts : take at cs ++ (range cs at len ++ drop (at + len) cs) ≡ cs =
-        rw (← drop-drop len at cs, take-append-drop len (drop at cs)) (take-append-drop at cs) in
+    rw (← drop-drop len at cs, take-append-drop len (drop at cs)) (take-append-drop at cs) in
     let whole : marks (take at cs ++ range cs at len ++ drop (at + len) cs) ≡ marks cs =
-        ap marks (append_assoc (take at cs) (range cs at len) (drop (at + len) cs) ∙ parts) in
+    ap marks (append_assoc (take at cs) (range cs at len) (drop (at + len) cs) ∙ parts) in
     rw (count, map-append, map-append, same) (rw (map-append, map-append) at whole)
 
 -- objects of one reach
@@ -84,7 +83,7 @@ any_marks : (is_it : Mark → Bool) (o p : Object) (at len : ℕ) → marks o.ce
     → list_any (λ c. is_it c.mark) (range o.cells at len) ≡ list_any (λ c. is_it c.mark) (range p.cells at len)
 any_marks is_it o p at len same =
     let moved : (cs : List Cell) → marks (range cs at len) ≡ take len (drop at (marks cs)) =
-        λ cs. rw (drop-map, take-map) refl in
+    λ cs. rw (drop-map, take-map) refl in
     any_mark is_it (range o.cells at len) ∙ ap (list_any is_it) (moved o.cells ∙ ap (λ ms. take len (drop at ms)) same ∙ sym (moved p.cells))
     ∙ sym (any_mark is_it (range p.cells at len))
 
@@ -97,9 +96,14 @@ case_alike None (Some p) alike place len align by = absurd alike
 case_alike (Some o) None alike place len align by = absurd alike
 case_alike (Some o) (Some p) alike place len align by =
     let size : length o.cells ≡ length p.cells =
-        sym (length-map o.cells (λ (c : Cell). c.mark)) ∙ ap length alike.1 ∙ length-map p.cells (λ (c : Cell). c.mark) in
-    rw (alike.0, size, any_marks is_clash o p place.offset len alike.1, any_marks is_literal o p place.offset len alike.1,
-        any_marks is_const o p place.offset len alike.1) refl
+    sym (length-map o.cells (λ (c : Cell). c.mark)) ∙ ap length alike.1 ∙ length-map p.cells (λ (c : Cell). c.mark) in
+    rw (
+      alike.0,
+      size,
+      any_marks is_clash o p place.offset len alike.1,
+      any_marks is_literal o p place.offset len alike.1,
+      any_marks is_const o p place.offset len alike.1,
+    ) refl
 
 alike_itself : (o : Option Object) → Alike o o
 alike_itself None = tt
@@ -120,15 +124,15 @@ written_alike objects place bytes r plain number =
     let count : length part ≡ length bytes = length-range o.cells place.offset (length bytes) (omega (arith, r.high, r.within)) in
     let same_part : marks (map stored_cell bytes) ≡ marks part = marks_stored bytes ∙ sym (rw count at (unmarked part plain)) in
     let same_marks : marks new.cells ≡ marks o.cells =
-        marks-with_cells o.cells place.offset (length bytes) (map stored_cell bytes) (length-map bytes stored_cell) same_part in
+    marks-with_cells o.cells place.offset (length bytes) (map stored_cell bytes) (length-map bytes stored_cell) same_part in
     let alike : Alike (Some new) (Some o) = (refl, same_marks) in
     let case_here : i ≡ place_of number → Alike (object_of (set objects i new) number) (object_of objects number) = λ same.
-        let at : slice_get objects (place_of number) ≡ Some o = subst (λ j. slice_get objects j ≡ Some o) same r.at in
-        let at_new : slice_get (set objects i new) (place_of number) ≡ Some new =
-            subst (λ j. slice_get (set objects i new) j ≡ Some new) same (slice_get-set_same objects i o new r.at) in
-        rw (at_new, at) (alike_numbered (number_of o.class (place_of number + 1) == number) new o alike) in
+    let at : slice_get objects (place_of number) ≡ Some o = subst (λ j. slice_get objects j ≡ Some o) same r.at in
+    let at_new : slice_get (set objects i new) (place_of number) ≡ Some new =
+    subst (λ j. slice_get (set objects i new) j ≡ Some new) same (slice_get-set_same objects i o new r.at) in
+    rw (at_new, at) (alike_numbered (number_of o.class (place_of number + 1) == number) new o alike) in
     let case_other : i ≢ place_of number → Alike (object_of (set objects i new) number) (object_of objects number) = λ ne.
-        rw (slice_get-set_other objects i (place_of number) new ne) (alike_itself (object_of objects number)) in
+    rw (slice_get-set_other objects i (place_of number) new ne) (alike_itself (object_of objects number)) in
     rw (written_at objects place bytes o r.at) (elim (cases_eq i (place_of number)) [ inl same ↦ case_here same | inr ne ↦ case_other ne ])
 
 -- the marks of a range that was reached to store
@@ -149,4 +153,9 @@ reach-stored s place [] reached other len align by = refl
 reach-stored s place (b ∷ bytes) reached other len align by =
     let r : InRange s.objects place (length (b ∷ bytes)) = in_range_to_store s place (length (b ∷ bytes)) reached in
     case_alike (object_of (written s.objects place (b ∷ bytes)) other.object) (object_of s.objects other.object)
-        (written_alike s.objects place (b ∷ bytes) r (plain_range s place (length (b ∷ bytes)) reached r) other.object) other len align by
+    (written_alike s.objects place (b ∷ bytes) r (plain_range s place (length (b ∷ bytes)) reached r) other.object) other len align by
+
+pub stored_reach : (s new : Storage) (place : Pointer) (bytes : List (Option ℕ)) (len : ℕ) → IsReachedToStore s place len → len ≡ length bytes
+    → new ≡ stored s place bytes → SameReach s new
+stored_reach s new place bytes len reached e is =
+    subst (λ (x : Storage). SameReach s x) (sym is) (reach-stored s place bytes (subst (λ n. IsReachedToStore s place n) e reached))

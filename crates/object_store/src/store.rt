@@ -46,7 +46,7 @@ impl Store {
     ghost use Rattle.object_store.specs.Object.{number_of, place_of, object_of};
     ghost use Rattle.object_store.specs.Storage.{is_live, live_bytes, fits};
     ghost use Rattle.object_store.specs.Reach.{Tells, reach, stores, IsReached, IsReachedToStore};
-    ghost use Rattle.object_store.specs.Changes.{ChangesOnly};
+    ghost use Rattle.object_store.specs.Changes.{ChangesOnly, SameReach};
     ghost use Rattle.object_store.specs.Messages.{fresh_store};
     ghost use Rattle.object_store.specs.Steps.{next_number, new_object, with_new, with_dead, with_mark, with_call, without_call, cells_of, bytes_at, stored};
 
@@ -199,6 +199,7 @@ impl Store {
         requires room { 0 < length bytes.now → length self.old.writes < 4 }
         ensures stored { self.new ≡ stored self.old place (map Some bytes.now) }
         ensures alone { ChangesOnly self.old self.new place (length bytes.now) }
+        ensures reach { SameReach self.old self.new }
         ensures noted { length self.new.writes ≤ length self.old.writes + 1 }
     {
         if bytes.is_empty() {
@@ -218,6 +219,7 @@ impl Store {
         requires room { 0 < len → length self.old.writes < 4 }
         ensures stored { self.new ≡ stored self.old place (replicate len (Some byte)) }
         ensures alone { ChangesOnly self.old self.new place len }
+        ensures reach { SameReach self.old self.new }
         ensures noted { length self.new.writes ≤ length self.old.writes + 1 }
     {
         if len == 0 {
@@ -238,6 +240,7 @@ impl Store {
         requires room { 0 < len → length self.old.writes < 4 }
         ensures stored { self.new ≡ stored self.old to (bytes_at self.old from len) }
         ensures alone { ChangesOnly self.old self.new to len }
+        ensures reach { SameReach self.old self.new }
         ensures noted { length self.new.writes ≤ length self.old.writes + 1 }
     {
         if len == 0 {

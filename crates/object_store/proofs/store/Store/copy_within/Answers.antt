@@ -3,6 +3,7 @@ use Rattle.std.proofs.Common.{arith, sym, ◌∙◌}
 use Rattle.object_store.specs.Storage.{Storage}
 use Rattle.object_store.specs.Steps.{bytes_in}
 use Rattle.object_store.proofs.Outside.{stored_alone}
+use Rattle.object_store.proofs.SameReach.{stored_reach}
 use Rattle.object_store.proofs.RangeLemmas.{in_range, in_range_to_store, IsCounted-written, stored_step, stored_none, length-bytes_in}
 use Rattle.object_store.proofs.store.Store.copy_within.Goals as goal
 
@@ -31,3 +32,7 @@ pub returns-clause-alone : goal.returns-clause-alone
 returns-clause-alone c =
     (stored_alone c.args.self.now _ c.args.to (bytes_in c.args.self.now.objects c.args.from c.args.len) c.args.len
     (in_range_to_store c.args.self.now c.args.to c.args.len c.requires.to) (length-bytes_in c.args.self.now.objects c.args.from c.args.len (in_range c.args.self.now c.args.from c.args.len c.requires.from)) (returns-clause-stored c))
+
+pub returns-clause-reach : goal.returns-clause-reach
+returns-clause-reach c =
+    stored_reach c.args.self.now _ c.args.to (bytes_in c.args.self.now.objects c.args.from c.args.len) c.args.len c.requires.to (length-bytes_in c.args.self.now.objects c.args.from c.args.len (in_range c.args.self.now c.args.from c.args.len c.requires.from)) (returns-clause-stored c)

@@ -3,6 +3,7 @@ use Rattle.std.proofs.Common.{replicate, Some, arith, sym}
 use Rattle.std.proofs.lemmas.List.{length-replicate}
 use Rattle.object_store.specs.Storage.{Storage}
 use Rattle.object_store.proofs.Outside.{stored_alone}
+use Rattle.object_store.proofs.SameReach.{stored_reach}
 use Rattle.object_store.proofs.RangeLemmas.{in_range_to_store, IsCounted-written, stored_step, stored_none}
 use Rattle.object_store.proofs.store.Store.fill.Goals as goal
 
@@ -28,3 +29,7 @@ pub returns-clause-alone : goal.returns-clause-alone
 returns-clause-alone c =
     (stored_alone c.args.self.now _ c.args.place (replicate c.args.len (Some c.args.byte)) c.args.len
     (in_range_to_store c.args.self.now c.args.place c.args.len c.requires.reached) (sym (length-replicate c.args.len (Some c.args.byte))) (returns-clause-stored c))
+
+pub returns-clause-reach : goal.returns-clause-reach
+returns-clause-reach c =
+    stored_reach c.args.self.now _ c.args.place (replicate c.args.len (Some c.args.byte)) c.args.len c.requires.reached (sym (length-replicate c.args.len (Some c.args.byte))) (returns-clause-stored c)

@@ -5,6 +5,7 @@ use Rattle.std.proofs.lemmas.List.{length-map}
 use Rattle.object_store.specs.Storage.{Storage}
 use Rattle.object_store.specs.Ranges.{InRange}
 use Rattle.object_store.proofs.Outside.{stored_alone}
+use Rattle.object_store.proofs.SameReach.{stored_reach}
 use Rattle.object_store.proofs.RangeLemmas.{in_range_to_store, IsCounted-written, stored_step, stored_none}
 use Rattle.object_store.proofs.store.Store.put.Goals as goal
 
@@ -36,3 +37,7 @@ pub returns-clause-alone : goal.returns-clause-alone
 returns-clause-alone c =
     (stored_alone c.args.self.now _ c.args.place (map Some c.args.bytes.now) (length c.args.bytes.now)
     (in_range_to_store c.args.self.now c.args.place (length c.args.bytes.now) c.requires.reached) (sym (length-map c.args.bytes.now (λ b. Some b))) (returns-clause-stored c))
+
+pub returns-clause-reach : goal.returns-clause-reach
+returns-clause-reach c =
+    stored_reach c.args.self.now _ c.args.place (map Some c.args.bytes.now) (length c.args.bytes.now) c.requires.reached (sym (length-map c.args.bytes.now (λ b. Some b))) (returns-clause-stored c)
