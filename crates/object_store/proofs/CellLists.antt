@@ -1,6 +1,6 @@
 -- Loops that write the elements of a list over those of another, from a place on, upwards or downwards.
-use Rattle.std.proofs.Common.{◌≡◌, ℕ, ◌+◌, ◌-◌, ◌<◌, ◌≤◌, List, [], ◌∷◌, ◌++◌, length, get_or, set, take, drop, map, rules, arith, refl, sym, ◌∙◌, ap, add-zero, append_assoc}
-use Rattle.std.proofs.lemmas.List.{places, take_all, drop_more, take-append-drop, get_or-append_right, set_at, take_more, length-map, get_or-map, get_or-take, get_or-drop, length-take-le, length-drop}
+use Rattle.std.proofs.Common.{◌≡◌, ℕ, ◌+◌, ◌<◌, ◌≤◌, List, [], ◌∷◌, ◌++◌, length, get_or, set, take, drop, map, arith, refl, sym, ◌∙◌, add-zero, append_assoc}
+use Rattle.std.proofs.lemmas.List.{places, take_all, drop_more, set_at, take_more, length-map, get_or-map, get_or-take, get_or-drop, length-take-le, length-drop}
 use Rattle.std.proofs.lemmas.List.Edits.{paste_more}
 use lib.Seq.{paste}
 use Rattle.object_store.specs.declared.cell.Cell.{Cell}

@@ -1,6 +1,9 @@
 -- What is known of a number that is a live object's.
-use Rattle.std.proofs.Common.{◌≡◌, ℕ, ◌+◌, ◌==◌, Bool, true, false, List, [], ◌∷◌, length, slice_get, Option, Some, None, IsTrue, cond, refl, ap, ◌∙◌, arith, rules}
+use Rattle.std.proofs.Common.{◌≡◌, ℕ, ◌+◌, ◌==◌, true, false, List, [], ◌∷◌, ◌++◌, length, slice_get, Option, Some, None, IsTrue, cond, refl, ap, ◌∙◌, arith, rules}
+use Rattle.std.proofs.lemmas.Bool.{eq-eqb}
 use Rattle.std.specs.Option.{option_map_or, option_and_then}
+use Rattle.object_store.specs.declared.class.Class.{Class}
+use Rattle.object_store.specs.declared.class.Class.TheVariants.{Static, Automatic, Allocated}
 use Rattle.object_store.specs.Object.{Object, number_of, place_of, numbered, object_of}
 use Rattle.object_store.specs.Storage.{Storage, is_live}
 
@@ -28,3 +31,18 @@ live_in objects number (Some o) at h = live_numbered objects number o (numbered 
 
 pub live_at : (s : Storage) (number : ℕ) → IsTrue (is_live s number) → LiveAt s.objects number
 live_at s number h = live_in s.objects number (slice_get s.objects (place_of number)) refl h
+
+place_of-number_of : (class : Class) (n : ℕ) → place_of (number_of class (n + 1)) ≡ n
+place_of-number_of Static n = omega arith
+place_of-number_of Automatic n = omega arith
+place_of-number_of Allocated n = omega arith
+
+slice_get_last : (objects : List Object) (o : Object) → slice_get (objects ++ o ∷ []) (length objects) ≡ Some o
+slice_get_last [] o = refl
+slice_get_last (x ∷ xs) o = slice_get_last xs o
+
+-- an object that is made is found by the number that it gets
+pub new_found : (objects : List Object) (o : Object) → object_of (objects ++ o ∷ []) (number_of o.class (length objects + 1)) ≡ Some o
+new_found objects o =
+    let place : place_of (number_of o.class (length objects + 1)) ≡ length objects = place_of-number_of o.class (length objects) in
+    rw (place, slice_get_last objects o, place, eq-eqb (number_of o.class (length objects + 1)) (number_of o.class (length objects + 1)) refl) refl

@@ -4,3 +4,5 @@ pub mod Found
 pub mod Positions
 pub mod ReachRows
 pub mod RangeLemmas
+pub mod Outside
+pub mod SameReach

@@ -1,6 +1,6 @@
 -- What is known of a range that was reached.
-use Rattle.std.proofs.Common.{◌≡◌, ◌≢◌, ℕ, suc, zero, ◌++◌, map, set, get_or, ◌+◌, ◌%◌, ◌<◌, ◌≤◌, ◌==◌, nat_lt, Bool, true, false, cond, not, ◌&&◌, ◌||◌, List, [], ◌∷◌, length, drop, slice_get, Option, Some, None, IsSome, IsTrue, refl, arith, rules, ap, sym, ◌∙◌}
-use Rattle.std.specs.Option.{option_map_or, option_and_then, option_or}
+use Rattle.std.proofs.Common.{◌≡◌, ◌≢◌, ℕ, suc, zero, ◌++◌, map, set, get_or, ◌+◌, ◌%◌, ◌<◌, ◌≤◌, ◌==◌, Bool, true, false, cond, not, ◌&&◌, List, [], ◌∷◌, length, drop, slice_get, Option, Some, None, IsSome, refl, arith, ap, sym, ◌∙◌}
+use Rattle.std.specs.Option.{option_and_then, option_or}
 use Rattle.std.proofs.lemmas.Grind.{common_steps}
 use Rattle.std.proofs.lemmas.Option.{same_Some, get_or_from_slice_get}
 use Rattle.std.proofs.lemmas.List.{places, set-set, length-map, length-set}
@@ -14,7 +14,7 @@ use Rattle.object_store.specs.declared.writes.Write.{Write}
 use Rattle.object_store.specs.Object.{Object, place_of, numbered, object_of}
 use Rattle.object_store.specs.Storage.{Storage, live_size, counted, IsCounted}
 use Rattle.object_store.specs.Steps.{with_cells, stored_cell, cells_of, bytes_in, range, written, stored}
-use Rattle.object_store.specs.Reach.{Access, Row, columns, first_case, reach_table, reach, access, stores, is_no_object, is_dead, is_dead_even, is_dead_odd, has_wrong_bounds, is_at_end, is_outside, is_misaligned, IsReached, IsReachedToStore}
+use Rattle.object_store.specs.Reach.{Access, columns, first_case, reach_table, access, is_no_object, is_dead_even, is_dead_odd, has_wrong_bounds, is_at_end, is_outside, is_misaligned, IsReached, IsReachedToStore}
 use Rattle.object_store.specs.Ranges.{InRange}
 use Rattle.object_store.proofs.Found.{numbered_same}
 use Rattle.object_store.proofs.CellLists.{length-range}

@@ -1,5 +1,5 @@
 -- Rows of the table of reaches, and what an answer to a reach says.
-use Rattle.std.proofs.Common.{◌≡◌, ℕ, Bool, true, false, cond, List, [], drop, Option, Some, None, Result, Ok, Err, OnOk, IsTrue, refl}
+use Rattle.std.proofs.Common.{◌≡◌, ℕ, Bool, true, false, cond, drop, Some, None, Result, Ok, Err, OnOk, IsTrue, refl}
 use Rattle.std.specs.Option.{option_or}
 use Rattle.critical_table.specs.declared.case.Case.{Case}
 use Rattle.critical_table.specs.declared.case.Case.TheVariants.{L2, L5, L8}

@@ -6,3 +6,4 @@ pub mod Reach
 pub mod Marks
 pub mod Ranges
 pub mod Load
+pub mod Changes

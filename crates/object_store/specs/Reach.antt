@@ -1,11 +1,11 @@
 -- Whether an access reaches its range, or which critical case it is (L.3p2).
-use Rattle.std.specs.Prelude.{◌≡◌, ℕ, ◌+◌, ◌-◌, ◌%◌, ◌==◌, nat_lt, Bool, true, false, not, ◌&&◌, ◌||◌, List, [], ◌∷◌, length, Option, Some, None, is_none, IsTrue, Result, MatchResult, if◌then◌else◌}
+use Rattle.std.specs.Prelude.{◌≡◌, ℕ, ◌+◌, ◌%◌, ◌==◌, nat_lt, Bool, true, false, not, ◌&&◌, ◌||◌, List, [], ◌∷◌, length, Option, Some, None, is_none, IsTrue, Result, MatchResult, if◌then◌else◌}
 use Rattle.std.specs.Option.{option_map_or, option_or}
 use Rattle.std.specs.List.{list_any}
 use Rattle.critical_table.specs.declared.case.Case.{Case}
 use Rattle.critical_table.specs.declared.case.Case.TheVariants.{L1, L2, L4, L5, L6, L7, L8, L9, L11, L12}
 use Rattle.object_store.specs.declared.mark.Mark.{Mark}
-use Rattle.object_store.specs.declared.mark.Mark.TheVariants.{Plain, Literal, Const, Clash}
+use Rattle.object_store.specs.declared.mark.Mark.TheVariants.{Literal, Const, Clash}
 use Rattle.object_store.specs.declared.cell.Cell.{Cell}
 use Rattle.object_store.specs.declared.by.By.{By}
 use Rattle.object_store.specs.declared.by.By.TheVariants.{Star, Arrow, Store, TextRead, TextWrite, OtherRead, OtherWrite}

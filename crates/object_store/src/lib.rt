@@ -30,3 +30,6 @@ pub use pointer::Pointer;
 pub use store::Store;
 pub use view::View;
 pub use writes::{Write, Writes};
+
+#[cfg(test)]
+mod tests;

@@ -46,8 +46,9 @@ impl Store {
     ghost use Rattle.object_store.specs.Object.{number_of, place_of, object_of};
     ghost use Rattle.object_store.specs.Storage.{is_live, live_bytes, fits};
     ghost use Rattle.object_store.specs.Reach.{Tells, reach, stores, IsReached, IsReachedToStore};
+    ghost use Rattle.object_store.specs.Changes.{ChangesOnly, SameReach};
     ghost use Rattle.object_store.specs.Messages.{fresh_store};
-    ghost use Rattle.object_store.specs.Steps.{next_number, with_new, with_dead, with_mark, with_call, without_call, cells_of, bytes_at, stored};
+    ghost use Rattle.object_store.specs.Steps.{next_number, new_object, with_new, with_dead, with_mark, with_call, without_call, cells_of, bytes_at, stored};
 
     /// A store with this budget, that holds the message object alone.
     pub fn new(alloc: Global, bytes: u64) -> Result<Store, AllocError>
@@ -68,12 +69,13 @@ impl Store {
     /// Makes an object and answers its number. Its bytes are indeterminate and may be stored to.
     ///
     /// `OverBytes` comes exactly where the live bytes and the size pass the budget. After a fault the store is as before.
-    #[tactic(auto, unfolding(crate::specs::Storage::live_bytes))]
+    #[tactic(auto, using(crate::proofs::Found::new_found), unfolding(crate::specs::Storage::live_bytes))]
     pub fn make(&mut self, size: u32, class: Class) -> Result<u32, MakeFault>
         requires size { (0 < size) × (size ≤ 16777216) }
         requires few { length self.old.objects < 2004194305 }
         ensures made { OnOk result (self.new ≡ with_new self.old size class) }
         ensures number { IfOk result (λ number. number ≡ next_number self.old class) }
+        ensures found { IfOk result (λ number. object_of self.new.objects number ≡ Some (new_object size class)) }
         ensures over { IsErrOf result MakeFault.OverBytes ↔ (self.old.budget < live_bytes self.old + size) }
         ensures fault { OnErr result (self.new ≡ self.old) }
     {
@@ -185,7 +187,8 @@ impl Store {
     /// The bytes of a range that was reached, as they stand in the store: nothing is copied.
     pub fn view(&self, place: Pointer, len: u32) -> View<'_>
         requires { IsReached self.now place len }
-        ensures { result ≡ bytes_at self.now place len }
+        ensures bytes { result ≡ bytes_at self.now place len }
+        ensures len { length result ≡ len }
     {
         View::new(cells_at(&self.slots, place, len))
     }
@@ -194,7 +197,10 @@ impl Store {
     pub fn put(&mut self, place: Pointer, bytes: &[u8])
         requires reached { IsReachedToStore self.old place (length bytes.now) }
         requires room { 0 < length bytes.now → length self.old.writes < 4 }
-        ensures { self.new ≡ stored self.old place (map Some bytes.now) }
+        ensures stored { self.new ≡ stored self.old place (map Some bytes.now) }
+        ensures alone { ChangesOnly self.old self.new place (length bytes.now) }
+        ensures reach { SameReach self.old self.new }
+        ensures noted { length self.new.writes ≤ length self.old.writes + 1 }
     {
         if bytes.is_empty() {
             return;
@@ -211,7 +217,10 @@ impl Store {
     pub fn fill(&mut self, place: Pointer, len: u32, byte: u8)
         requires reached { IsReachedToStore self.old place len }
         requires room { 0 < len → length self.old.writes < 4 }
-        ensures { self.new ≡ stored self.old place (replicate len (Some byte)) }
+        ensures stored { self.new ≡ stored self.old place (replicate len (Some byte)) }
+        ensures alone { ChangesOnly self.old self.new place len }
+        ensures reach { SameReach self.old self.new }
+        ensures noted { length self.new.writes ≤ length self.old.writes + 1 }
     {
         if len == 0 {
             return;
@@ -229,7 +238,10 @@ impl Store {
         requires to { IsReachedToStore self.old to len }
         requires from { IsReached self.old from len }
         requires room { 0 < len → length self.old.writes < 4 }
-        ensures { self.new ≡ stored self.old to (bytes_at self.old from len) }
+        ensures stored { self.new ≡ stored self.old to (bytes_at self.old from len) }
+        ensures alone { ChangesOnly self.old self.new to len }
+        ensures reach { SameReach self.old self.new }
+        ensures noted { length self.new.writes ≤ length self.old.writes + 1 }
     {
         if len == 0 {
             return;

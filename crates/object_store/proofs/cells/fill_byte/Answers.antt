@@ -1,7 +1,7 @@
-use Rattle.std.proofs.Common.{◌≡◌, ◌+◌, ◌≤◌, length, arith, map, replicate, get_or, None, Some, refl, ◌∙◌, ap, sym}
-use Rattle.std.proofs.lemmas.List.{length-map, get_or-map, get_or-replicate, length-replicate, get_or_default}
-use Rattle.object_store.specs.Steps.{stored_cell, marked, range}
-use Rattle.object_store.proofs.CellLists.{map_step, get_or-range, length-range, get_or-paste}
+use Rattle.std.proofs.Common.{arith, replicate, None, Some, ◌∙◌, ap, sym}
+use Rattle.std.proofs.lemmas.List.{get_or-replicate, length-replicate}
+use Rattle.object_store.specs.Steps.{stored_cell}
+use Rattle.object_store.proofs.CellLists.{map_step}
 use Rattle.object_store.proofs.cells.fill_byte.Goals as goal
 
 pub loop-i-preserved : goal.loop-i-preserved

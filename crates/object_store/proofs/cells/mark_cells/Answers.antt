@@ -1,8 +1,8 @@
-use Rattle.std.proofs.Common.{◌≡◌, ℕ, ◌+◌, ◌-◌, ◌<◌, ◌≤◌, List, length, arith, map, get_or, Option, None, ◌∙◌, ap, sym}
-use Rattle.std.proofs.lemmas.List.{length-map, get_or-map}
+use Rattle.std.proofs.Common.{List, arith, None, ap}
+use Rattle.std.proofs.lemmas.List.{length-map}
 use Rattle.object_store.specs.declared.cell.Cell.{Cell}
 use Rattle.object_store.specs.Steps.{stored_cell, marked, range}
-use Rattle.object_store.proofs.CellLists.{map_step, map_step_back, length-range, read_paste, read_paste_back}
+use Rattle.object_store.proofs.CellLists.{map_step, length-range, read_paste}
 use Rattle.object_store.proofs.cells.mark_cells.Goals as goal
 
 pub loop-i-preserved : goal.loop-i-preserved

@@ -1,6 +1,6 @@
-use Rattle.std.proofs.Common.{◌≡◌, map, Some, replicate}
+use Rattle.std.proofs.Common.{◌≡◌, map}
 use lib.Seq.{paste}
-use Rattle.object_store.specs.Steps.{stored_cell, marked, range}
+use Rattle.object_store.specs.Steps.{marked, range}
 use Rattle.object_store.proofs.cells.mark_cells.Given as goal
 
 abbrev pub invariant-loop-i : goal.invariant-loop-i

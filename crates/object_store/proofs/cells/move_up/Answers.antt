@@ -1,8 +1,8 @@
-use Rattle.std.proofs.Common.{◌≡◌, ℕ, ◌+◌, ◌-◌, ◌<◌, ◌≤◌, List, length, arith, map, get_or, Option, None, ◌∙◌, ap, sym}
+use Rattle.std.proofs.Common.{◌≡◌, ℕ, ◌-◌, List, length, arith, map, Option, None, ◌∙◌, ap, sym}
 use Rattle.std.proofs.lemmas.List.{length-map, get_or-map}
 use Rattle.object_store.specs.declared.cell.Cell.{Cell}
-use Rattle.object_store.specs.Steps.{stored_cell, marked, range}
-use Rattle.object_store.proofs.CellLists.{map_step, map_step_back, length-range, read_paste, read_paste_back}
+use Rattle.object_store.specs.Steps.{stored_cell, range}
+use Rattle.object_store.proofs.CellLists.{map_step_back, length-range, read_paste_back}
 use Rattle.object_store.proofs.cells.move_up.Goals as goal
 
 pub loop-left-preserved : goal.loop-left-preserved

@@ -1,6 +1,6 @@
-use Rattle.std.proofs.Common.{◌≡◌, map, Some, replicate}
+use Rattle.std.proofs.Common.{◌≡◌, map, Some}
 use lib.Seq.{paste}
-use Rattle.object_store.specs.Steps.{stored_cell, marked, range}
+use Rattle.object_store.specs.Steps.{stored_cell}
 use Rattle.object_store.proofs.cells.put_bytes.Given as goal
 
 abbrev pub invariant-loop-i : goal.invariant-loop-i

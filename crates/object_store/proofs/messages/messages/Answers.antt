@@ -1,6 +1,5 @@
 -- The bytes of the texts.
-use Rattle.std.proofs.Common.{rules, arith}
-use Rattle.std.proofs.lemmas.Grind.{common_steps}
+use Rattle.std.proofs.Common.{rules}
 use Rattle.object_store.specs.Messages.{message_bytes}
 use Rattle.object_store.proofs.messages.messages.Goals as goal
 

@@ -1,12 +1,9 @@
 -- The range that is read lies in an object that stays in the list.
-use Rattle.std.proofs.Common.{◌≡◌, ℕ, ◌<◌, ◌≤◌, ◌+◌, [], List, length, set, slice_get, Some, arith, ◌∙◌, sym, ap}
-use Rattle.std.proofs.lemmas.List.{length-set, set-set}
+use Rattle.std.proofs.Common.{◌≡◌, [], length, slice_get, Some, arith}
+use Rattle.std.proofs.lemmas.List.{length-set}
 use Rattle.std.proofs.lemmas.Option.{slice_get_within}
-use Rattle.object_store.specs.declared.cell.Cell.{Cell}
-use Rattle.object_store.specs.Object.{Object, place_of}
-use Rattle.object_store.specs.Ranges.{InRange}
-use Rattle.object_store.proofs.CellLists.{length-range}
-use Rattle.object_store.proofs.RangeLemmas.{InRange-set_other, slice_get-set_same, written_at, cells_of-found, copied, length_read}
+use Rattle.object_store.specs.Object.{Object}
+use Rattle.object_store.proofs.RangeLemmas.{InRange-set_other, slice_get-set_same, copied, length_read}
 use Rattle.object_store.proofs.ranges.copy_between.Goals as goal
 
 pub cells_at-requires : goal.cells_at-requires

@@ -1,5 +1,5 @@
 -- The rows before the marks do not fit, and the marks are those of the range.
-use Rattle.std.proofs.Common.{◌≡◌, ◌-◌, ◌+◌, ℕ, false, Some, arith, sym, ◌∙◌}
+use Rattle.std.proofs.Common.{◌≡◌, ◌-◌, ◌+◌, Some, arith, sym, ◌∙◌}
 use Rattle.object_store.specs.Reach.{Access}
 use Rattle.object_store.proofs.ReachRows.{bounds_rows, mark_rows}
 use Rattle.object_store.proofs.slot.Slot.reach_bounds.Goals as goal

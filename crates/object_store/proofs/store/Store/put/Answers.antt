@@ -1,15 +1,16 @@
 -- A range that was reached lies in its object, and a store there leaves the count as it is.
-use Rattle.std.proofs.Common.{◌≡◌, ℕ, ◌<◌, length, map, replicate, List, Option, Some, arith, sym, rules}
+use Rattle.std.proofs.Common.{length, map, Some, arith, sym, rules}
 use Rattle.std.proofs.lemmas.Grind.{common_steps}
-use Rattle.std.proofs.lemmas.List.{length-map, length-replicate}
+use Rattle.std.proofs.lemmas.List.{length-map}
 use Rattle.object_store.specs.Storage.{Storage}
-use Rattle.object_store.specs.Steps.{bytes_in}
 use Rattle.object_store.specs.Ranges.{InRange}
-use Rattle.object_store.proofs.RangeLemmas.{in_range, in_range_to_store, IsCounted-written, stored_step, stored_none, length-bytes_in}
+use Rattle.object_store.proofs.Outside.{stored_alone}
+use Rattle.object_store.proofs.SameReach.{stored_reach}
+use Rattle.object_store.proofs.RangeLemmas.{in_range_to_store, IsCounted-written, stored_step, stored_none}
 use Rattle.object_store.proofs.store.Store.put.Goals as goal
 
-pub returns-then-is_empty : goal.returns-then-is_empty
-returns-then-is_empty c = stored_none c.args.self.now c.args.place (map Some c.args.bytes.now) (rw length-map (search rules))
+pub returns-then-is_empty-clause-stored : goal.returns-then-is_empty-clause-stored
+returns-then-is_empty-clause-stored c = stored_none c.args.self.now c.args.place (map Some c.args.bytes.now) (rw length-map (search rules))
 
 pub put_at-requires : goal.put_at-requires
 put_at-requires c = rw (← c.self.view_is) at (in_range_to_store c.args.self.now c.args.place (length c.args.bytes.now) c.requires.reached)
@@ -20,8 +21,8 @@ invariant_of-self c =
     rw c.put_at.ensures (IsCounted-written c.self.inside.slots.items c.args.place (map Some c.args.bytes.now) (length c.args.bytes.now) c.self.inside.budget
     c.self.inside.live c.self.inside.open_calls r (sym (length-map c.args.bytes.now (λ b. Some b))) c.self.invariant)
 
-pub returns : goal.returns
-returns c =
+pub returns-clause-stored : goal.returns-clause-stored
+returns-clause-stored c =
     let s : Storage = record { objects = c.self.inside.slots.items; budget = c.self.inside.budget; open_calls = c.self.inside.open_calls; writes = c.self.inside.writes } in
     rw (← c.self.view_is) (stored_step s c.args.place (map Some c.args.bytes.now) c.put_at.new.slots.items c.push.new.self (length c.args.bytes.now)
     (grind (arith, common_steps)) (sym (length-map c.args.bytes.now (λ b. Some b))) c.put_at.ensures c.push.ensures)
@@ -31,3 +32,12 @@ overflow_cast-bytes c =
     let r : InRange c.args.self.now.objects c.args.place (length c.args.bytes.now) =
     in_range_to_store c.args.self.now c.args.place (length c.args.bytes.now) c.requires.reached in
     omega (arith, r.within)
+
+pub returns-clause-alone : goal.returns-clause-alone
+returns-clause-alone c =
+    (stored_alone c.args.self.now _ c.args.place (map Some c.args.bytes.now) (length c.args.bytes.now)
+    (in_range_to_store c.args.self.now c.args.place (length c.args.bytes.now) c.requires.reached) (sym (length-map c.args.bytes.now (λ b. Some b))) (returns-clause-stored c))
+
+pub returns-clause-reach : goal.returns-clause-reach
+returns-clause-reach c =
+    stored_reach c.args.self.now _ c.args.place (map Some c.args.bytes.now) (length c.args.bytes.now) c.requires.reached (sym (length-map c.args.bytes.now (λ b. Some b))) (returns-clause-stored c)

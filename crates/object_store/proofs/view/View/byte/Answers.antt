@@ -1,5 +1,5 @@
 -- The view is as long as its cells.
-use Rattle.std.proofs.Common.{◌≡◌, ℕ, ◌<◌, List, length, arith, map, ap, refl, Option, ◌∙◌, sym, slice_get, Some, None}
+use Rattle.std.proofs.Common.{◌≡◌, List, length, arith, ap, refl, ◌∙◌, sym, None}
 use Rattle.std.proofs.lemmas.List.{length-map}
 use Rattle.std.proofs.lemmas.Option.{slice_get-map, slice_get-get_or}
 use Rattle.object_store.specs.declared.cell.Cell.{Cell}
