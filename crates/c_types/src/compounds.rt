@@ -1,9 +1,13 @@
-ghost use Rattle.std.specs.Prelude.{◌≡◌, ◌<◌, IfOk, OnErr, option_map};
+ghost use Rattle.std.specs.Prelude.{◌≡◌, ◌<◌, Some, All, IfOk, IfErr, OnErr, option_map};
+ghost use Rattle.c_types.specs.declared.shape.TypeId.{TypeId};
 ghost use Rattle.c_types.specs.Types.{CompoundBody, count_of};
 ghost use Rattle.c_types.specs.CType.{type_of};
 ghost use Rattle.c_types.specs.Compounds.{IsCompound, MakesCompound, compound_at, members_at, member_named};
+ghost use Rattle.c_types.specs.Layouts.{layouts_of, IsForWant};
 ghost use Rattle.c_types.specs.Inner.{compound_of};
 
+use crate::fault::{BuildFault, LayoutFault};
+use crate::layout::Layout;
 use crate::member::Member;
 use crate::parts::{CompoundType, Made};
 use crate::shape::{Shape, TypeId};
@@ -29,6 +33,24 @@ impl TypeTable {
             return Err(AllocError);
         }
         Ok(id)
+    }
+
+    // The layouts of some types.
+    //
+    // `Incomplete` comes exactly where one has none.
+    fn layouts(&self, types: &[TypeId]) -> Result<Vec<Layout>, BuildFault>
+        requires { All (λ (id : TypeId). id.0 < count_of self.now) types.now }
+        ensures found { IfOk result (λ layouts. layouts_of self.now types.now ≡ Some layouts.items) }
+        ensures fault { IfErr result (IsForWant (layouts_of self.now types.now)) }
+    {
+        let mut layouts = Vec::new(self.alloc);
+        for id in types {
+            match self.layout(*id) {
+                Some(layout) => layouts.push(layout)?,
+                None => return Err(BuildFault::Layout(LayoutFault::Incomplete)),
+            }
+        }
+        Ok(layouts)
     }
 
     // The parts of a structure or union.
