@@ -1,8 +1,10 @@
 pub mod Ends
 pub mod Fresh
 pub mod Grows
+pub mod Members
 pub mod Parameters
 pub mod Showing
 pub mod Sound
+pub mod WithBody
 pub mod WithCompound
 pub mod WithFunction

@@ -46,7 +46,6 @@ fn largest_size(layouts: &[Layout]) -> u32
 }
 
 // The byte behind the last member of a structure; none where it is past the largest object.
-#[tactic(auto, using(crate::proofs::Ends::end_from_ge))]
 fn end_of(layouts: &[Layout]) -> Option<u64>
     ensures { MatchOption result (largest < end_from 0 layouts.now)
         (λ end. (end ≡ end_from 0 layouts.now) × (end ≤ largest)) }
@@ -77,6 +76,7 @@ fn end_with(is_union: bool, layouts: &[Layout]) -> Option<u64>
 /// `TooLarge` comes exactly where it would pass the largest size.
 pub fn size_with(is_union: bool, layouts: &[Layout]) -> Result<u32, LayoutFault>
     ensures value { IfOk result (λ size. size ≡ size_with is_union layouts.now) }
+    ensures bound { IfOk result (λ size. size ≤ largest) }
     ensures fault { compound_fault is_union (Some layouts.now) ≡ result_err result }
 {
     let Some(end) = end_with(is_union, layouts) else {
@@ -90,10 +90,10 @@ pub fn size_with(is_union: bool, layouts: &[Layout]) -> Result<u32, LayoutFault>
 }
 
 // The places of the members of a structure.
-#[tactic(auto, using(crate::proofs::Ends::end_from_ge))]
 fn places_in_order(alloc: Global, layouts: &[Layout]) -> Result<Vec<u32>, AllocError>
     requires { end_from 0 layouts.now ≤ largest }
-    ensures { IfOk result (λ places. places.items ≡ places_from 0 layouts.now) }
+    ensures places { IfOk result (λ places. places.items ≡ places_from 0 layouts.now) }
+    ensures count { IfOk result (λ places. length places.items ≡ length layouts.now) }
 {
     let mut places = Vec::new(alloc);
     let mut from = 0;
@@ -107,7 +107,8 @@ fn places_in_order(alloc: Global, layouts: &[Layout]) -> Result<Vec<u32>, AllocE
 
 // The places of the members of a union.
 fn places_at_zero(alloc: Global, layouts: &[Layout]) -> Result<Vec<u32>, AllocError>
-    ensures { IfOk result (λ places. places.items ≡ places_with true layouts.now) }
+    ensures places { IfOk result (λ places. places.items ≡ places_with true layouts.now) }
+    ensures count { IfOk result (λ places. length places.items ≡ length layouts.now) }
 {
     layouts.iter().map(|_| 0).collect(alloc)
 }
@@ -115,7 +116,8 @@ fn places_at_zero(alloc: Global, layouts: &[Layout]) -> Result<Vec<u32>, AllocEr
 /// The places of the members, of a structure in order and of a union at 0 (6.7.2.1p15 and p16).
 pub fn places_with(alloc: Global, is_union: bool, layouts: &[Layout]) -> Result<Vec<u32>, AllocError>
     requires { is_union ≡ false → end_from 0 layouts.now ≤ largest }
-    ensures { IfOk result (λ places. places.items ≡ places_with is_union layouts.now) }
+    ensures places { IfOk result (λ places. places.items ≡ places_with is_union layouts.now) }
+    ensures count { IfOk result (λ places. length places.items ≡ length layouts.now) }
 {
     if is_union {
         return places_at_zero(alloc, layouts);
@@ -132,7 +134,7 @@ pub fn members_with(
 ) -> Result<Vec<Member>, AllocError>
     requires types { length types.now ≡ length names.now }
     requires places { length places.now ≡ length names.now }
-    ensures { IfOk result (λ members. members.items ≡ members_with names.now types.now places.now) }
+    ensures members { IfOk result (λ members. members.items ≡ members_with names.now types.now places.now) }
 {
     let mut members = Vec::new(alloc);
     for i in 0..names.len() {
