@@ -1,23 +1,21 @@
 -- A compound type that is completed changes no layout that was there.
-use Rattle.std.proofs.Common.{◌≡◌, ◌≢◌, ◌⊎◌, ℕ, zero, suc, ◌+◌, ◌<◌, List, [], ◌∷◌, length, All, refl, ap, sym, subst, ◌∙◌, arith, slice_index_or, slice_set, slice_get, inl, inr}
-use Rattle.std.specs.Prelude.{Bool, false, true, Option, Some, None, option_map, IsSome, is_some}
+use Rattle.std.proofs.Common.{◌≡◌, ◌≢◌, ◌⊎◌, ℕ, zero, suc, ◌<◌, List, [], ◌∷◌, length, All, refl, ap, sym, subst, ◌∙◌, arith, slice_set, slice_get, inl, inr}
+use Rattle.std.specs.Prelude.{Bool, false, Option, Some, None, option_map, IsSome}
 use Rattle.std.proofs.lemmas.Bool.{cases_eq}
 use Rattle.std.proofs.Math.ListN.{length-set}
 use Rattle.std.proofs.lemmas.Option.{slice_get-get_or}
-use Rattle.std.proofs.lemmas.List.Elements.{All-set, All-weaker}
+use Rattle.std.proofs.lemmas.List.Elements.{All-set}
 use Rattle.c_types.specs.declared.layout.Layout.{Layout}
 use Rattle.c_types.specs.declared.member.Member.{Member}
 use Rattle.c_types.specs.declared.shape.Shape.{Shape}
 use Rattle.c_types.specs.declared.shape.Shape.TheVariants as s
 use Rattle.c_types.specs.declared.shape.Quals.{Quals}
-use Rattle.c_types.specs.declared.shape.TypeId.{TypeId}
-use Rattle.c_types.specs.declared.parts.Made.{Made}
 use Rattle.c_types.specs.Types.{Types, CompoundParts, CompoundBody, FunctionParts, count_of}
-use Rattle.c_types.specs.CType.{CType, Bare, Plain, Array, Basic', Pointer, Function, Compound, Enumerated, type_of, type_with, type_at, function_at, all_types}
-use Rattle.c_types.specs.Shapes.{RefersBelow, ShowsType, entry_at}
+use Rattle.c_types.specs.CType.{CType, Plain, Array, Basic', Pointer, Function, Compound, Enumerated, type_of, type_with, function_at, all_types}
+use Rattle.c_types.specs.Shapes.{RefersBelow, entry_at}
 use Rattle.c_types.specs.Layouts.{layout_of, compound_layout, repeated}
 use Rattle.c_types.specs.Compounds.{with_body, parts_at, incomplete}
-use Rattle.c_types.specs.Inner.{IsSound, KeepsLayout, HasMembersIn, HasOwnLayout, kept_layout}
+use Rattle.c_types.specs.Inner.{IsSound, KeepsLayout, HasMembersIn}
 use Rattle.c_types.proofs.Showing.{shows}
 
 slice_get-other : (cs : List CompoundParts) (n k : ℕ) (p : CompoundParts) → k ≢ n → slice_get (slice_set cs n p) k ≡ slice_get cs k
@@ -72,12 +70,12 @@ pub sound-with_body : (types : Types) (n : ℕ) (u : Bool) (body : CompoundBody)
 sound-with_body types n u body sound below none members =
     let parts : CompoundParts = record { is_union = u; body = Some body } in
     let empty : compound_layout (slice_get types.compounds n) ≡ None =
-        ap compound_layout (slice_get-get_or types.compounds n (incomplete false) below) ∙ ap (option_map (λ (b : CompoundBody). b.layout)) none in
+    ap compound_layout (slice_get-get_or types.compounds n (incomplete false) below) ∙ ap (option_map (λ (b : CompoundBody). b.layout)) none in
     record {
       begins = sound.begins;
       refers = λ id h. refers id (entry_at types id).shape (sound.refers id h);
       layouts = λ id h.
-        keeps types.functions (all_types types) (entry_at types id.0).shape (entry_at types id.0).layout (entry_at types id.0).quals (type_of types id) types.compounds n parts empty
+          keeps types.functions (all_types types) (entry_at types id.0).shape (entry_at types id.0).layout (entry_at types id.0).quals (type_of types id) types.compounds n parts empty
           (shows types id h (sound.refers id.0 h)).stands_for (sound.layouts id h);
       members = All-set (HasMembersIn types) types.compounds n parts members sound.members;
     }

@@ -1,11 +1,11 @@
 -- Structures and unions, and their members (6.7.2.1).
-use Rattle.std.specs.Prelude.{◌≡◌, ℕ, ◌<◌, ◌+◌, Bool, false, List, [], ◌∷◌, ◌++◌, length, Option, Some, None, slice_index_or, slice_set, if◌then◌else◌}
+use Rattle.std.specs.Prelude.{◌≡◌, ℕ, ◌<◌, Bool, false, List, [], ◌∷◌, ◌++◌, length, Option, Some, None, slice_index_or, slice_set, if◌then◌else◌}
 use Rattle.std.specs.Str.{bytes_eq}
 use Rattle.c_types.specs.declared.member.Member.{Member}
 use Rattle.c_types.specs.declared.layout.Layout.{Layout}
 use Rattle.c_types.specs.declared.shape.TypeId.{TypeId}
 use Rattle.c_types.specs.Types.{CompoundParts, CompoundBody, Types, count_of}
-use Rattle.c_types.specs.CType.{CType, Plain, Array, Bare, Compound, type_of, unqualified}
+use Rattle.c_types.specs.CType.{CType, Plain, Compound, type_of, unqualified}
 use Rattle.c_types.specs.Making.{KeepsTypes}
 use Rattle.c_types.specs.Layouts.{layouts_of, places_with, size_with, strictest}
 
@@ -89,4 +89,4 @@ pub record Completes (old new : Types) (id : TypeId) (names : List (List ℕ)) (
   pub body : CompoundBody
   pub laid_out : IsBodyOf old (compound_at old (type_of old id)).is_union names types body
   pub changed : new ≡ with_body old (number_in (type_of old id))
-    (record { is_union = (compound_at old (type_of old id)).is_union; body = Some body })
+      (record { is_union = (compound_at old (type_of old id)).is_union; body = Some body })

@@ -1,11 +1,10 @@
 -- Sizes, alignments, and the places of members (6.2.5, 6.2.6, 6.2.8, 6.7.2.1).
-use Rattle.std.specs.Prelude.{◌≡◌, ℕ, ◌+◌, ◌*◌, ◌/◌, max, map, Bool, List, [], ◌∷◌, ◌++◌, Option, Some, None, Result, Ok, Err, option_map, slice_get, nat_le, nat_lt, if◌then◌else◌}
+use Rattle.std.specs.Prelude.{◌≡◌, ℕ, ◌+◌, ◌*◌, max, map, Bool, List, [], ◌∷◌, ◌++◌, Option, Some, None, Result, Ok, Err, option_map, slice_get, nat_le, if◌then◌else◌}
 use Rattle.std.specs.Int.{next_multiple_of}
 use Rattle.acc_num.specs.declared.kind.IntKind.{IntKind}
 use Rattle.acc_num.specs.declared.kind.IntKind.TheVariants as k
 use Rattle.c_types.specs.declared.basic.Basic.{Basic}
 use Rattle.c_types.specs.declared.basic.Basic.TheVariants as b
-use Rattle.c_types.specs.declared.member.Member.{Member}
 use Rattle.c_types.specs.declared.layout.Layout.{Layout}
 use Rattle.c_types.specs.declared.fault.LayoutFault.{LayoutFault}
 use Rattle.c_types.specs.declared.fault.LayoutFault.TheVariants.{Incomplete, TooLarge}

@@ -41,7 +41,12 @@ impl TypeTable {
     ///
     /// `Incomplete` comes exactly where the type of a member has no size, and else `TooLarge` where the type would
     /// have more than 16,777,216 bytes.
-    pub fn complete(&mut self, id: TypeId, names: &[Name], types: &[TypeId]) -> Result<(), BuildFault>
+    pub fn complete(
+        &mut self,
+        id: TypeId,
+        names: &[Name],
+        types: &[TypeId],
+    ) -> Result<(), BuildFault>
         requires is_there { id.0 < count_of self.old }
         requires incomplete { IsIncomplete self.old (type_of self.old id) }
         requires types { All (λ (id : TypeId). id.0 < count_of self.old) types.now }
@@ -99,7 +104,9 @@ impl TypeTable {
         requires incomplete { (parts_at self.old number).body ≡ None }
         requires members { All (λ (m : Member). m.of.0 < count_of self.old) body.members.items }
         ensures { self.new ≡ with_body self.old number (record {
-            is_union = (parts_at self.old number).is_union; body = Some (body_of body) }) }
+          is_union = (parts_at self.old number).is_union;
+          body = Some (body_of body);
+        }) }
     {
         self.compounds[number as usize].body = Some(body);
     }

@@ -114,7 +114,11 @@ fn places_at_zero(alloc: Global, layouts: &[Layout]) -> Result<Vec<u32>, AllocEr
 }
 
 /// The places of the members, of a structure in order and of a union at 0 (6.7.2.1p15 and p16).
-pub fn places_with(alloc: Global, is_union: bool, layouts: &[Layout]) -> Result<Vec<u32>, AllocError>
+pub fn places_with(
+    alloc: Global,
+    is_union: bool,
+    layouts: &[Layout],
+) -> Result<Vec<u32>, AllocError>
     requires { is_union ≡ false → end_from 0 layouts.now ≤ largest }
     ensures places { IfOk result (λ places. places.items ≡ places_with is_union layouts.now) }
     ensures count { IfOk result (λ places. length places.items ≡ length layouts.now) }

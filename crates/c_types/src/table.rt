@@ -68,7 +68,11 @@ impl TypeTable {
         ensures err { OnErr result (self.new ≡ self.old) }
     {
         let id = TypeId(self.made.len() as u64);
-        self.made.push(Made { shape, quals, layout })?;
+        self.made.push(Made {
+            shape,
+            quals,
+            layout,
+        })?;
         Ok(id)
     }
 

@@ -16,9 +16,9 @@ invariant_of-self-2 c =
     let next : Made = record { shape = c.args.shape; quals = c.args.quals; layout = c.args.layout } in
     let grows : at_made old c.push.new.self.items ≡ with_made old next = ap (at_made old) c.in_ok-push.ensures.items in
     let below : RefersBelow old (count_of old) next.shape =
-        subst (λ (t : Types). RefersBelow t (count_of t) next.shape) (sym c.self.view_is) c.requires.refers in
+    subst (λ (t : Types). RefersBelow t (count_of t) next.shape) (sym c.self.view_is) c.requires.refers in
     let kept : KeepsLayout next.shape next.layout (type_with old.functions (all_types old) next.shape next.quals) old.compounds =
-        subst (λ (t : Types). KeepsLayout next.shape next.layout (type_with t.functions (all_types t) next.shape next.quals) t.compounds) (sym c.self.view_is) c.requires.layout in
+    subst (λ (t : Types). KeepsLayout next.shape next.layout (type_with t.functions (all_types t) next.shape next.quals) t.compounds) (sym c.self.view_is) c.requires.layout in
     subst IsSound (sym grows) (sound-with_made old next c.self.invariant below kept)
 
 pub returns-clause-made : goal.returns-clause-made
@@ -29,4 +29,4 @@ returns-clause-made c =
     let next : Made = record { shape = c.args.shape; quals = c.args.quals; layout = c.args.layout } in
     let grows : new ≡ with_made old next = ap (at_made old) c.in_ok-push.ensures.items in
     subst (λ (old : Types). MakesType old new id (type_with old.functions (all_types old) c.args.shape c.args.quals)) c.self.view_is
-      (makes-with_made old new id next grows (search rules))
+    (makes-with_made old new id next grows (search rules))
