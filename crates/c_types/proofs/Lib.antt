@@ -3,6 +3,7 @@ pub mod Fresh
 pub mod Grows
 pub mod Members
 pub mod Parameters
+pub mod Qualifying
 pub mod Showing
 pub mod Sound
 pub mod WithBody

@@ -10,6 +10,7 @@ pub mod layout;
 pub mod member;
 pub mod parts;
 mod placing;
+mod qualified;
 pub mod shape;
 pub mod table;
 
