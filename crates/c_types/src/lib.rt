@@ -20,3 +20,6 @@ pub use layout::Layout;
 pub use member::Member;
 pub use shape::{Quals, Shape, TypeId};
 pub use table::TypeTable;
+
+#[cfg(test)]
+mod tests;

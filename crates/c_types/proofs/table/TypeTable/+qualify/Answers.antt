@@ -14,9 +14,9 @@ push-requires-clause-layout t c =
     let e = c.entry-entry.result in
     let len = c.in-Array.length in
     let type : type_of now c.args.id ≡ Array (type_of now c.in-Array.of) len =
-        subst (λ (x : Shape). type_of now c.args.id ≡ type_with now.functions (all_types now) x (entry_at now c.args.id.0).quals) c.in-Array.is c.entry-entry.ensures.shows.stands_for in
+    subst (λ (x : Shape). type_of now c.args.id ≡ type_with now.functions (all_types now) x (entry_at now c.args.id.0).quals) c.in-Array.is c.entry-entry.ensures.shows.stands_for in
     let kept : KeepsLayout (s.Array c.in-Array.of len) e.layout (Array (type_of now c.in-Array.of) len) now.compounds =
-        subst (λ (x : CType). KeepsLayout (s.Array c.in-Array.of len) e.layout x now.compounds) type
-          (subst (λ (x : Shape). KeepsLayout x e.layout (type_of now c.args.id) now.compounds) c.in-Array.is c.entry-entry.ensures.layout) in
+    subst (λ (x : CType). KeepsLayout (s.Array c.in-Array.of len) e.layout x now.compounds) type
+    (subst (λ (x : Shape). KeepsLayout x e.layout (type_of now c.args.id) now.compounds) c.in-Array.is c.entry-entry.ensures.layout) in
     let made = c.in_ok-of-in-Array.ensures.made in
     keeps-array _ _ len e.layout _ _ now.compounds _ c.args.quals kept made.stands_for made.compounds
