@@ -1,7 +1,6 @@
 -- Compatibility is symmetric and reflexive.
-use Rattle.std.proofs.Common.{◌≡◌, ℕ, refl, ap, sym, ◌∙◌}
+use Rattle.std.proofs.Common.{◌≡◌, ℕ, refl, ap, ◌∙◌, arith}
 use Rattle.std.specs.Prelude.{Bool, true, false, not, ◌&&◌, ◌||◌, ◌==◌, Option, Some, None}
-use Rattle.c_types.specs.declared.basic.Basic.{Basic}
 use Rattle.c_types.specs.declared.shape.Quals.{Quals}
 use Rattle.c_types.specs.CType.{CType, CTypes, Bare, Plain, Array, Basic', Pointer, Function, Compound, Enumerated, Nil, Cons, number_of}
 use Rattle.c_types.specs.Compatible.{agree, bare_agree, all_agree, same_bool, same_quals, lengths_agree}
@@ -43,15 +42,15 @@ lengths-own None = refl
 lengths-own (Some m) = own_number m
 
 mutual
+  unfolding agree bare_agree all_agree
+
   pub agree-sym : (a b : CType) (strict : Bool) → agree a b strict ≡ agree b a strict
-  unfolding agree
   agree-sym (Plain x q) (Plain y r) strict = both _ _ _ _ (ap (λ s. not strict || s) (same_quals-sym q r)) (bare_agree-sym x y)
   agree-sym (Array t m) (Array u n) strict = both _ _ _ _ (lengths-sym m n) (agree-sym t u strict)
   agree-sym (Plain x q) (Array u n) strict = refl
   agree-sym (Array t m) (Plain y r) strict = refl
 
   bare_agree-sym : (x y : Bare) → bare_agree x y ≡ bare_agree y x
-  unfolding bare_agree
   bare_agree-sym (Basic' a) (Basic' b) = same_number (number_of a) (number_of b)
   bare_agree-sym (Compound m) (Compound n) = same_number m n
   bare_agree-sym (Enumerated m) (Enumerated n) = same_number m n
@@ -61,7 +60,6 @@ mutual
   bare_agree-sym x y = refl
 
   all_agree-sym : (ps qs : CTypes) → all_agree ps qs ≡ all_agree qs ps
-  unfolding all_agree
   all_agree-sym Nil Nil = refl
   all_agree-sym (Cons p ps) (Cons q qs) = both _ _ _ _ (agree-sym p q false) (all_agree-sym ps qs)
   all_agree-sym Nil (Cons q qs) = refl
@@ -72,13 +70,13 @@ either_way true s e = e
 either_way false s e = refl
 
 mutual
+  unfolding agree bare_agree all_agree
+
   pub agree-own : (a : CType) (strict : Bool) → agree a a strict ≡ true
-  unfolding agree
   agree-own (Plain x q) strict = both _ _ true true (either_way strict _ (same_quals-own q)) (bare_agree-own x)
   agree-own (Array t m) strict = both _ _ true true (lengths-own m) (agree-own t strict)
 
   bare_agree-own : (x : Bare) → bare_agree x x ≡ true
-  unfolding bare_agree
   bare_agree-own (Basic' a) = own_number (number_of a)
   bare_agree-own (Compound m) = own_number m
   bare_agree-own (Enumerated m) = own_number m
@@ -86,6 +84,5 @@ mutual
   bare_agree-own (Function g ps v) = both _ _ true true (both _ _ true true (agree-own g true) (same_bool-own v)) (all_agree-own ps)
 
   all_agree-own : (ps : CTypes) → all_agree ps ps ≡ true
-  unfolding all_agree
   all_agree-own Nil = refl
   all_agree-own (Cons p ps) = both _ _ true true (agree-own p false) (all_agree-own ps)

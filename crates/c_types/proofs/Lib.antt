@@ -1,3 +1,4 @@
+pub mod CompatibleLaws
 pub mod Ends
 pub mod Fresh
 pub mod Grows

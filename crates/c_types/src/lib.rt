@@ -15,6 +15,7 @@ pub mod shape;
 pub mod table;
 
 pub use basic::Basic;
+pub use compatible::compatibility_law;
 pub use fault::{BuildFault, LayoutFault};
 pub use layout::Layout;
 pub use member::Member;
