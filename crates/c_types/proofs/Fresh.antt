@@ -11,7 +11,7 @@ use Rattle.c_types.specs.declared.shape.TypeId.{TypeId}
 use Rattle.c_types.specs.Types.{Types, count_of}
 use Rattle.c_types.specs.CType.{CType, number_of, Plain, Basic', type_of, type_with, all_types, unqualified}
 use Rattle.c_types.specs.Layouts.{basic_layout, layout_of}
-use Rattle.c_types.specs.Shapes.{RefersBelow, ShowsType, no_entry, entry_at}
+use Rattle.c_types.specs.Shapes.{RefersBelow, no_entry, entry_at}
 use Rattle.c_types.specs.Inner.{IsSound, KeepsLayout, HasMembersIn, basics, entry_of, parts_of, compound_of}
 use Rattle.c_types.proofs.Showing.{shows}
 use Rattle.c_types.proofs.Sound.{begins_there}
@@ -43,14 +43,14 @@ fresh_is made functions compounds m f c = cc
 pub sound-fresh : IsSound fresh
 sound-fresh =
     let refers : (id : ℕ) → id < 13 → RefersBelow fresh id (entry_at fresh id).shape =
-        λ id h. let e = basic_at id h in subst (λ (m : Made). RefersBelow fresh id m.shape) (sym e.1) tt in
+    λ id h. let e = basic_at id h in subst (λ (m : Made). RefersBelow fresh id m.shape) (sym e.1) tt in
     record {
       begins = refl;
       refers = refers;
       layouts = λ id h.
-        let e = basic_at id.0 h in
-        let shown = shows fresh id h (refers id.0 h) in
-        layout id e.0 e.1 shown.stands_for;
+          let e = basic_at id.0 h in
+          let shown = shows fresh id h (refers id.0 h) in
+          layout id e.0 e.1 shown.stands_for;
       members = All-nil (HasMembersIn fresh);
     }
   where
@@ -83,6 +83,6 @@ basic_there types basic id sound place =
     let small : id.0 < 13 = omega (arith, place, place_below basic) in
     let below : id.0 < count_of types = omega (arith, begins_there types sound, small) in
     let entry : entry_at types id.0 ≡ entry_of basic =
-        sym (get_or-take 13 types.made id.0 no_entry small) ∙ ap (λ (l : List Made). slice_index_or l id.0 no_entry) sound.begins ∙ ap (λ n. slice_index_or basics n no_entry) place ∙ first_entry basic in
+    sym (get_or-take 13 types.made id.0 no_entry small) ∙ ap (λ (l : List Made). slice_index_or l id.0 no_entry) sound.begins ∙ ap (λ n. slice_index_or basics n no_entry) place ∙ first_entry basic in
     let shown = shows types id below (sound.refers id.0 below) in
     (below, shown.stands_for ∙ ap (λ (m : Made). type_with types.functions (all_types types) m.shape m.quals) entry)

@@ -1,11 +1,11 @@
 -- What the ids stand for as a table grows.
-use Rattle.std.proofs.Common.{◌≡◌, ℕ, ◌+◌, ◌<◌, ◌≤◌, List, [], ◌∷◌, ◌++◌, length, refl, ap, sym, ◌∙◌, arith, length-append, slice_index_or}
+use Rattle.std.proofs.Common.{◌≡◌, ◌+◌, List, [], ◌∷◌, ◌++◌, length, refl, sym, ◌∙◌, arith, length-append}
 use Rattle.std.proofs.lemmas.List.{get_or_append_left, get_or_push}
 use Rattle.c_types.specs.declared.shape.TypeId.{TypeId}
 use Rattle.c_types.specs.declared.parts.Made.{Made}
 use Rattle.c_types.specs.Types.{Types, FunctionParts, count_of}
-use Rattle.c_types.specs.CType.{CType, grown, type_with, type_at, all_types, type_of, void}
-use Rattle.c_types.specs.Making.{KeepsTypes, MakesType, with_made}
+use Rattle.c_types.specs.CType.{CType, grown, type_with, all_types, void}
+use Rattle.c_types.specs.Making.{MakesType, with_made}
 
 pub length-grown : (functions : List FunctionParts) (types : List CType) (made : List Made) → length (grown functions types made) ≡ length types + length made
 unfolding grown

@@ -1,7 +1,12 @@
+pub mod CompatibleLaws
+pub mod Ends
 pub mod Fresh
 pub mod Grows
+pub mod Members
 pub mod Parameters
+pub mod Qualifying
 pub mod Showing
 pub mod Sound
+pub mod WithBody
 pub mod WithCompound
 pub mod WithFunction

@@ -1,10 +1,10 @@
 -- Lists of parameters, compared from the front.
-use Rattle.std.proofs.Common.{◌≡◌, ◌≢◌, ℕ, suc, ◌+◌, ◌<◌, ◌≤◌, List, [], ◌∷◌, length, drop, refl, ap, sym, ◌∙◌, arith, slice_index_or}
+use Rattle.std.proofs.Common.{◌≡◌, ◌≢◌, ℕ, suc, ◌+◌, ◌<◌, ◌≤◌, List, [], ◌∷◌, length, drop, refl, ap, sym, ◌∙◌, slice_index_or}
 use Rattle.std.specs.Prelude.{Bool, true, false, ◌&&◌}
 use Rattle.std.proofs.lemmas.List.{drop_more, drop_all}
 use Rattle.c_types.specs.declared.shape.TypeId.{TypeId}
-use Rattle.c_types.specs.CType.{CType, CTypes, Nil, Cons, type_at, types_at}
-use Rattle.c_types.specs.Compatible.{agree, bare_agree, all_agree}
+use Rattle.c_types.specs.CType.{CType, type_at, types_at}
+use Rattle.c_types.specs.Compatible.{agree, all_agree}
 
 and-false : (b : Bool) → (b && false) ≡ false
 and-false true = refl

@@ -1,5 +1,5 @@
 -- What an id stands for, from what the table keeps for it.
-use Rattle.std.proofs.Common.{◌≡◌, ℕ, ◌+◌, ◌<◌, ◌≤◌, suc, List, [], ◌∷◌, ◌++◌, length, take, drop, All, refl, ap, sym, subst, ◌∙◌, arith, length-append, slice_index_or, append_assoc, append-nil, slice_get}
+use Rattle.std.proofs.Common.{◌≡◌, ◌+◌, ◌<◌, List, [], ◌∷◌, ◌++◌, length, take, drop, All, refl, ap, sym, subst, ◌∙◌, arith, append_assoc, append-nil, slice_get}
 use Rattle.std.specs.Prelude.{Option, Some, None, IsSomeAnd}
 use Rattle.std.proofs.lemmas.List.{get_or_append_left, get_or_at, drop_more, take-append-drop, length-take-le}
 use Rattle.std.proofs.lemmas.List.Elements.{All-head, All-tail}
@@ -9,7 +9,7 @@ use Rattle.c_types.specs.declared.shape.Quals.{Quals}
 use Rattle.c_types.specs.declared.shape.TypeId.{TypeId}
 use Rattle.c_types.specs.declared.parts.Made.{Made}
 use Rattle.c_types.specs.Types.{Types, FunctionParts, count_of}
-use Rattle.c_types.specs.CType.{CType, CTypes, Plain, Array, Bare, Pointer, Function, Cons, grown, type_with, type_at, types_at, function_at, all_types, type_of, void}
+use Rattle.c_types.specs.CType.{CType, Plain, Array, Pointer, grown, type_with, type_at, types_at, function_at, all_types, void}
 use Rattle.c_types.specs.Shapes.{RefersBelow, ShowsType, entry_at, no_entry}
 use Rattle.c_types.proofs.Grows.{length-grown}
 
@@ -62,13 +62,13 @@ shows table id below refers =
     let before = take id.0 table.made in
     let after = drop (id.0 + 1) table.made in
     let split : table.made ≡ before ++ e ∷ after =
-        sym (take-append-drop id.0 table.made) ∙ ap (λ r. before ++ r) (drop_more table.made id.0 no_entry below) in
+    sym (take-append-drop id.0 table.made) ∙ ap (λ r. before ++ r) (drop_more table.made id.0 no_entry below) in
     let first = grown f [] before in
     let own = type_with f first e.shape e.quals in
     let rest = grown-front f (first ++ own ∷ []) after in
     let len : length first ≡ id.0 = omega (arith, length-grown f [] before, length-take-le id.0 table.made (omega arith)) in
     let all : all_types table ≡ first ++ own ∷ rest.0 =
-        ap (grown f []) split ∙ grown-append f [] before (e ∷ after) ∙ grown-next f first e after ∙ rest.1 ∙ append_assoc first (own ∷ []) rest.0 in
+    ap (grown f []) split ∙ grown-append f [] before (e ∷ after) ∙ grown-next f first e after ∙ rest.1 ∙ append_assoc first (own ∷ []) rest.0 in
     let same = type_with-front table first (own ∷ rest.0) e.shape e.quals (subst (λ n. RefersBelow table n e.shape) (sym len) refers) in
     record {
       stands_for = ap (λ ts. type_at ts id) all ∙ get_or_at first own rest.0 void id.0 len ∙ sym same ∙ ap (λ ts. type_with f ts e.shape e.quals) (sym all);

@@ -1,15 +1,14 @@
 -- A table that is sound stays so as it grows.
-use Rattle.std.proofs.Common.{◌≡◌, ℕ, ◌+◌, ◌<◌, ◌≤◌, suc, List, [], ◌∷◌, ◌++◌, length, take, All, refl, ap, sym, subst, ◌∙◌, arith, length-append, slice_index_or, inl, inr}
+use Rattle.std.proofs.Common.{◌≡◌, ℕ, ◌<◌, ◌≤◌, [], ◌∷◌, length, All, refl, ap, sym, subst, ◌∙◌, arith, length-append, inl, inr}
 use Rattle.std.proofs.Math.Nat.{eq-or-lt_of_le}
 use Rattle.std.proofs.lemmas.List.{get_or_append_left, get_or_push, take-append-le, length-take}
 use Rattle.std.proofs.lemmas.List.Elements.{All-weaker}
 use Rattle.std.specs.Prelude.{Option, Some, None, IfSome}
-use Rattle.c_types.specs.declared.basic.Basic.TheVariants.{Void}
 use Rattle.c_types.specs.declared.member.Member.{Member}
 use Rattle.c_types.specs.declared.shape.TypeId.{TypeId}
 use Rattle.c_types.specs.declared.parts.Made.{Made}
 use Rattle.c_types.specs.Types.{Types, CompoundParts, CompoundBody, count_of}
-use Rattle.c_types.specs.Inner.{IsSound, KeepsLayout, HasMembersIn, basics}
+use Rattle.c_types.specs.Inner.{IsSound, KeepsLayout, HasMembersIn}
 use Rattle.c_types.specs.CType.{CType, type_of, type_with, all_types}
 use Rattle.c_types.specs.Shapes.{RefersBelow, no_entry, entry_at}
 use Rattle.c_types.specs.Making.{MakesType, with_made}
@@ -37,11 +36,11 @@ sound-with_made types next sound below layout =
     record {
       begins = take-append-le 13 types.made (next ∷ []) (begins_there types sound) ∙ sound.begins;
       refers = λ id h. elim (eq-or-lt_of_le {n = id} {m = count_of types} (omega (arith, len, h))) [
-          inl e ↦ subst (λ (m : Made). RefersBelow types id m.shape) (sym (entry_new id e)) (subst (λ n. RefersBelow types n next.shape) (sym e) below)
+        | inl e ↦ subst (λ (m : Made). RefersBelow types id m.shape) (sym (entry_new id e)) (subst (λ n. RefersBelow types n next.shape) (sym e) below)
         | inr l ↦ subst (λ (m : Made). RefersBelow types id m.shape) (sym (entry_old id l)) (sound.refers id l)
       ];
       layouts = λ id h. elim (eq-or-lt_of_le {n = id.0} {m = count_of types} (omega (arith, len, h))) [
-          inl e ↦ subst (λ (m : Made). KeepsLayout m.shape m.layout (type_of new id) types.compounds) (sym (entry_new id.0 e)) (subst (λ (t : CType). KeepsLayout next.shape next.layout t types.compounds) (sym (made id e).stands_for) layout)
+        | inl e ↦ subst (λ (m : Made). KeepsLayout m.shape m.layout (type_of new id) types.compounds) (sym (entry_new id.0 e)) (subst (λ (t : CType). KeepsLayout next.shape next.layout t types.compounds) (sym (made id e).stands_for) layout)
         | inr l ↦ subst (λ (m : Made). KeepsLayout m.shape m.layout (type_of new id) types.compounds) (sym (entry_old id.0 l)) (subst (λ (t : CType). KeepsLayout (entry_at types id.0).shape (entry_at types id.0).layout t types.compounds) (sym ((made (record { 0 = count_of types }) refl).types.same id l)) (sound.layouts id l))
       ];
       members = All-weaker (HasMembersIn types) (HasMembersIn new) (HasMembersIn-more types new (omega (arith, len))) types.compounds sound.members;

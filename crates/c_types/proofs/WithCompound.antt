@@ -1,5 +1,5 @@
 -- One more compound type, still incomplete, changes nothing of the types that are there.
-use Rattle.std.proofs.Common.{◌≡◌, ℕ, zero, suc, ◌+◌, ◌<◌, ◌≤◌, List, [], ◌∷◌, ◌++◌, length, All, map, refl, ap, sym, subst, ◌∙◌, arith, length-append, slice_index_or, slice_get}
+use Rattle.std.proofs.Common.{◌≡◌, ℕ, zero, suc, List, [], ◌∷◌, ◌++◌, length, map, refl, ap, sym, ◌∙◌, arith, length-append, slice_get}
 use Rattle.std.specs.Prelude.{Bool, Option, Some, None, option_map}
 use Rattle.std.proofs.lemmas.List.{map-append, length-map}
 use Rattle.std.proofs.lemmas.List.Elements.{All-push}
@@ -11,12 +11,12 @@ use Rattle.c_types.specs.declared.parts.Made.{Made}
 use Rattle.c_types.specs.declared.parts.Signature.{Signature}
 use Rattle.c_types.specs.declared.parts.CompoundType.{CompoundType}
 use Rattle.c_types.specs.Types.{Types, CompoundParts, count_of}
-use Rattle.c_types.specs.CType.{CType, Bare, Plain, Array, Basic', Pointer, Function, Compound, Enumerated, type_of, unqualified}
+use Rattle.c_types.specs.CType.{CType, Plain, Array, Basic', Pointer, Function, Compound, Enumerated, type_of, unqualified}
 use Rattle.c_types.specs.Shapes.{RefersBelow, entry_at}
 use Rattle.c_types.specs.Layouts.{layout_of, compound_layout, repeated}
 use Rattle.c_types.specs.Compounds.{MakesCompound, with_compound, incomplete}
-use Rattle.c_types.specs.Making.{MakesType, with_made}
-use Rattle.c_types.specs.Inner.{IsSound, KeepsLayout, HasMembersIn, kept_layout, HasOwnLayout, parts_of, compound_of}
+use Rattle.c_types.specs.Making.{with_made}
+use Rattle.c_types.specs.Inner.{IsSound, KeepsLayout, HasMembersIn, kept_layout, parts_of, compound_of}
 use Rattle.c_types.proofs.Grows.{makes-with_made}
 use Rattle.c_types.proofs.Sound.{sound-with_made}
 
@@ -58,6 +58,7 @@ sound-with_compound types u sound = record {
     refers id (s.Pointer to) h = h
     refers id (s.Array of len) h = h
     refers id (s.Enumerated n) h = h
+
     layout : (m : Made) (type : CType) → KeepsLayout m.shape m.layout type types.compounds → KeepsLayout m.shape m.layout type (types.compounds ++ incomplete u ∷ [])
     layout m type k = record {
       layout = kept_layout-incomplete m.shape m.layout types.compounds u ∙ k.layout ∙ sym (layout_of-incomplete type types.compounds u);
@@ -72,9 +73,9 @@ with_compound_type types u =
 pub sound-with_compound_type : (types : Types) (u : Bool) → IsSound types → IsSound (with_compound_type types u)
 sound-with_compound_type types u sound =
     sound-with_made (with_compound types (incomplete u)) (record { shape = s.Compound (length types.compounds); quals = unqualified; layout = None })
-      (sound-with_compound types u sound)
-      (omega (arith, length-append types.compounds (incomplete u ∷ [])))
-      (record { layout = refl; own = tt })
+    (sound-with_compound types u sound)
+    (omega (arith, length-append types.compounds (incomplete u ∷ [])))
+    (record { layout = refl; own = tt })
 
 pub makes-with_compound_type : (types : Types) (u : Bool) (id : TypeId) → id.0 ≡ count_of types → MakesCompound types (with_compound_type types u) id u
 makes-with_compound_type types u id place =

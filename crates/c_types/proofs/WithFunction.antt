@@ -1,6 +1,6 @@
 -- One more function type among the parts changes nothing of the types that are there.
-use Rattle.std.proofs.Common.{◌≡◌, ℕ, zero, suc, ◌+◌, ◌<◌, List, [], ◌∷◌, ◌++◌, length, All, map, refl, ap, sym, subst, ◌∙◌, arith, length-append, slice_index_or, slice_get}
-use Rattle.std.specs.Prelude.{Bool, false, Option, Some, None, Result, Ok, Err, is_ok, is_err, if◌then◌else◌, IsSomeAnd, IsSome}
+use Rattle.std.proofs.Common.{◌≡◌, ℕ, zero, suc, ◌<◌, List, [], ◌∷◌, ◌++◌, length, All, map, refl, ap, sym, subst, ◌∙◌, slice_get}
+use Rattle.std.specs.Prelude.{false, Option, Some, None, Result, Ok, Err, is_ok, is_err, if◌then◌else◌, IsSomeAnd, IsSome}
 use Rattle.std.proofs.lemmas.List.{map-append, length-map}
 use Rattle.std.proofs.lemmas.List.Elements.{All-head, All-tail, All-from_get_or}
 use Rattle.c_types.specs.declared.shape.Shape.{Shape}
@@ -64,7 +64,7 @@ has_function types id (s.Enumerated n) h = tt
 pub all_types-with_function : (types : Types) (f : FunctionParts) → IsSound types → all_types (with_function types f) ≡ all_types types
 all_types-with_function types f sound =
     grown-function types.functions f [] types.made
-      (All-from_get_or (λ (m : Made). HasFunction types.functions m.shape) types.made no_entry (λ i h. has_function types i (entry_at types i).shape (sound.refers i h)))
+    (All-from_get_or (λ (m : Made). HasFunction types.functions m.shape) types.made no_entry (λ i h. has_function types i (entry_at types i).shape (sound.refers i h)))
 
 sound-with_function : (types : Types) (f : FunctionParts) → IsSound types → IsSound (with_function types f)
 sound-with_function types f sound = record {
@@ -98,11 +98,11 @@ pub sound-with_function_type : (types : Types) (f : FunctionParts) → IsSound t
 sound-with_function_type types f sound below =
     let last = slice_get-last types.functions f in
     sound-with_made (with_function types f) (function_entry types) (sound-with_function types f sound)
-      (subst (λ (o : Option FunctionParts). IsSomeAnd o (IsBelow (count_of types))) (sym last) below)
-      (record {
-        layout = subst (λ (o : Option FunctionParts). None ≡ layout_of (Plain (function_at (all_types (with_function types f)) o) unqualified) types.compounds) (sym last) refl;
-        own = tt;
-      })
+    (subst (λ (o : Option FunctionParts). IsSomeAnd o (IsBelow (count_of types))) (sym last) below)
+    (record {
+      layout = subst (λ (o : Option FunctionParts). None ≡ layout_of (Plain (function_at (all_types (with_function types f)) o) unqualified) types.compounds) (sym last) refl;
+      own = tt;
+    })
 
 pub makes-with_function_type : (types : Types) (f : FunctionParts) (id : TypeId) → IsSound types → id.0 ≡ count_of types → MakesType types (with_function_type types f) id (Plain (Function (type_of types f.gives) (types_at (all_types types) f.parameters) f.variadic) unqualified)
 makes-with_function_type types f id sound place =
@@ -111,8 +111,8 @@ makes-with_function_type types f id sound place =
     record {
       is_there = made.is_there;
       stands_for = made.stands_for
-        ∙ ap (λ o. Plain (function_at (all_types (with_function types f)) o) unqualified) (slice_get-last types.functions f)
-        ∙ ap (λ (all : List CType). Plain (function_at all (Some f)) unqualified) same;
+          ∙ ap (λ o. Plain (function_at (all_types (with_function types f)) o) unqualified) (slice_get-last types.functions f)
+          ∙ ap (λ (all : List CType). Plain (function_at all (Some f)) unqualified) same;
       types = record {
         count = made.types.count;
         same = λ q below. made.types.same q below ∙ ap (λ (all : List CType). type_at all q) same;

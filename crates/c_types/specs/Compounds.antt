@@ -1,11 +1,11 @@
 -- Structures and unions, and their members (6.7.2.1).
-use Rattle.std.specs.Prelude.{◌≡◌, ℕ, ◌<◌, ◌+◌, Bool, false, List, [], ◌∷◌, ◌++◌, length, Option, Some, None, slice_index_or, slice_set, if◌then◌else◌}
+use Rattle.std.specs.Prelude.{◌≡◌, ℕ, ◌<◌, Bool, false, List, [], ◌∷◌, ◌++◌, length, Option, Some, None, slice_index_or, slice_set, if◌then◌else◌}
 use Rattle.std.specs.Str.{bytes_eq}
 use Rattle.c_types.specs.declared.member.Member.{Member}
 use Rattle.c_types.specs.declared.layout.Layout.{Layout}
 use Rattle.c_types.specs.declared.shape.TypeId.{TypeId}
 use Rattle.c_types.specs.Types.{CompoundParts, CompoundBody, Types, count_of}
-use Rattle.c_types.specs.CType.{CType, Plain, Array, Bare, Compound, type_of, unqualified}
+use Rattle.c_types.specs.CType.{CType, Plain, Compound, type_of, unqualified}
 use Rattle.c_types.specs.Making.{KeepsTypes}
 use Rattle.c_types.specs.Layouts.{layouts_of, places_with, size_with, strictest}
 
@@ -18,9 +18,13 @@ IsCompound other = ⊥
 abbrev pub incomplete : Bool → CompoundParts
 incomplete is_union = record { is_union = is_union; body = None }
 
+-- what a table knows of the compound type of a number
+abbrev pub parts_at : Types → ℕ → CompoundParts
+parts_at types number = slice_index_or types.compounds number (incomplete false)
+
 -- what a table knows of a compound type
 abbrev pub compound_at : Types → CType → CompoundParts
-compound_at types (Plain (Compound number) quals) = slice_index_or types.compounds number (incomplete false)
+compound_at types (Plain (Compound number) quals) = parts_at types number
 compound_at types other = incomplete false
 
 abbrev pub members_in : Option CompoundBody → List Member
@@ -74,10 +78,15 @@ number_in other = 0
 abbrev pub with_body : Types → ℕ → CompoundParts → Types
 with_body types number parts = record { made = types.made; functions = types.functions; compounds = slice_set types.compounds number parts }
 
+-- The body is that of members with these names and types, each of which has a layout.
+pub record IsBodyOf (table : Types) (is_union : Bool) (names : List (List ℕ)) (types : List TypeId) (body : CompoundBody) : Type 0 where
+  pub layouts : List Layout
+  pub are : layouts_of table types ≡ Some layouts
+  pub is : body ≡ body_with is_union names types layouts
+
 -- The type has got members of these names and types, laid out in order; nothing else has changed.
 pub record Completes (old new : Types) (id : TypeId) (names : List (List ℕ)) (types : List TypeId) : Type 0 where
-  pub layouts : List Layout
-  pub are : layouts_of old types ≡ Some layouts
-  pub body : new ≡ with_body old (number_in (type_of old id)) (record {
-    is_union = (compound_at old (type_of old id)).is_union;
-    body = Some (body_with (compound_at old (type_of old id)).is_union names types layouts) })
+  pub body : CompoundBody
+  pub laid_out : IsBodyOf old (compound_at old (type_of old id)).is_union names types body
+  pub changed : new ≡ with_body old (number_in (type_of old id))
+      (record { is_union = (compound_at old (type_of old id)).is_union; body = Some body })

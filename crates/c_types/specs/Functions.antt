@@ -1,7 +1,7 @@
 -- Function types and their parts (6.2.5p20, 6.7.6.3).
-use Rattle.std.specs.Prelude.{Bool, false, List, [], ◌∷◌, ◌++◌}
+use Rattle.std.specs.Prelude.{Bool, false, [], ◌∷◌, ◌++◌}
 use Rattle.c_types.specs.Types.{FunctionParts, Types}
-use Rattle.c_types.specs.CType.{CType, CTypes, Plain, Array, Bare, Function, Nil, void}
+use Rattle.c_types.specs.CType.{CType, CTypes, Plain, Function, Nil, void}
 
 -- a function type
 abbrev pub IsFunction : CType → Type 0

@@ -1,11 +1,10 @@
 -- Sizes, alignments, and the places of members (6.2.5, 6.2.6, 6.2.8, 6.7.2.1).
-use Rattle.std.specs.Prelude.{◌≡◌, ℕ, ◌+◌, ◌*◌, ◌/◌, max, map, Bool, List, [], ◌∷◌, ◌++◌, Option, Some, None, Result, Ok, Err, option_map, slice_get, nat_le, nat_lt, if◌then◌else◌}
+use Rattle.std.specs.Prelude.{◌≡◌, ℕ, ◌+◌, ◌*◌, max, map, Bool, List, [], ◌∷◌, ◌++◌, Option, Some, None, Result, Ok, Err, option_map, slice_get, nat_le, if◌then◌else◌}
 use Rattle.std.specs.Int.{next_multiple_of}
 use Rattle.acc_num.specs.declared.kind.IntKind.{IntKind}
 use Rattle.acc_num.specs.declared.kind.IntKind.TheVariants as k
 use Rattle.c_types.specs.declared.basic.Basic.{Basic}
 use Rattle.c_types.specs.declared.basic.Basic.TheVariants as b
-use Rattle.c_types.specs.declared.member.Member.{Member}
 use Rattle.c_types.specs.declared.layout.Layout.{Layout}
 use Rattle.c_types.specs.declared.fault.LayoutFault.{LayoutFault}
 use Rattle.c_types.specs.declared.fault.LayoutFault.TheVariants.{Incomplete, TooLarge}
@@ -81,24 +80,32 @@ abbrev mutual
 abbrev pub rounded : ℕ → ℕ → ℕ
 rounded from align = next_multiple_of from align
 
--- the greatest alignment of some members
+-- the greatest of an alignment and those of some members
+abbrev pub strictest_from : ℕ → List Layout → ℕ
+strictest_from align [] = align
+strictest_from align (l ∷ ls) = strictest_from (max align l.align) ls
+
+-- the alignment of a structure or union with members of these layouts: that of the strictest member
 abbrev pub strictest : List Layout → ℕ
-strictest [] = 1
-strictest (l ∷ ls) = max l.align (strictest ls)
+strictest ls = strictest_from 1 ls
 
 -- the byte behind the last member of a structure whose members are placed in order from a byte on (6.7.2.1p15)
 abbrev pub end_from : ℕ → List Layout → ℕ
 end_from from [] = from
 end_from from (l ∷ ls) = end_from (rounded from l.align + l.size) ls
 
--- the size of the largest member (6.7.2.1p16)
-abbrev pub largest_size : List Layout → ℕ
-largest_size [] = 0
-largest_size (l ∷ ls) = max l.size (largest_size ls)
+-- the greatest of a size and those of some members
+abbrev pub largest_from : ℕ → List Layout → ℕ
+largest_from size [] = size
+largest_from size (l ∷ ls) = largest_from (max size l.size) ls
+
+-- the byte behind the last member of a structure, or behind the largest one of a union (6.7.2.1p16)
+abbrev pub end_with : Bool → List Layout → ℕ
+end_with is_union ls = if is_union then largest_from 0 ls else end_from 0 ls
 
 -- the size of a structure or union with members of these layouts, with the padding at its end (6.7.2.1p17)
 abbrev pub size_with : Bool → List Layout → ℕ
-size_with is_union ls = rounded (if is_union then largest_size ls else end_from 0 ls) (strictest ls)
+size_with is_union ls = rounded (end_with is_union ls) (strictest ls)
 
 -- the places of the members of a structure from a byte on
 abbrev pub places_from : ℕ → List Layout → List ℕ
@@ -149,3 +156,13 @@ IsBuilt fault (Err (Memory e)) = Unit {0}
 abbrev pub compound_fault : Bool → Option (List Layout) → Option LayoutFault
 compound_fault is_union None = Some Incomplete
 compound_fault is_union (Some ls) = if nat_le (size_with is_union ls) largest then None else Some TooLarge
+
+-- A fault that comes for want of a layout, or of memory.
+abbrev pub IsForWant : Option (List Layout) → BuildFault → Type 0
+IsForWant layouts (Layout' Incomplete) = layouts ≡ None
+IsForWant layouts (Layout' TooLarge) = ⊥
+IsForWant layouts (Memory e) = Unit {0}
+
+-- more layouts before those that are found
+abbrev pub layouts_after : List Layout → Option (List Layout) → Option (List Layout)
+layouts_after found rest = option_map (λ more. found ++ more) rest

@@ -3,6 +3,7 @@ pub mod CType
 pub mod Shapes
 pub mod Layouts
 pub mod Making
+pub mod Qualified
 pub mod Functions
 pub mod Compounds
 pub mod Compatible

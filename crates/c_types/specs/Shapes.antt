@@ -1,5 +1,5 @@
 -- What the shape at an id says of the type that it stands for.
-use Rattle.std.specs.Prelude.{◌≡◌, ℕ, ◌<◌, length, All, Option, Some, None, IsSomeAnd, slice_get, slice_index_or}
+use Rattle.std.specs.Prelude.{◌≡◌, ℕ, ◌<◌, length, All, None, IsSomeAnd, slice_get, slice_index_or}
 use Rattle.c_types.specs.declared.basic.Basic.TheVariants.{Void}
 use Rattle.c_types.specs.declared.shape.Shape.{Shape}
 use Rattle.c_types.specs.declared.shape.Shape.TheVariants as s

@@ -1,5 +1,5 @@
 -- A table of types as contracts see it: what it has made, in order.
-use Rattle.std.specs.Prelude.{ℕ, ◌+◌, ◌*◌, Bool, List, length, Option, slice_index_or, slice_get}
+use Rattle.std.specs.Prelude.{ℕ, Bool, List, length, Option}
 use Rattle.c_types.specs.declared.shape.TypeId.{TypeId}
 use Rattle.c_types.specs.declared.member.Member.{Member}
 use Rattle.c_types.specs.declared.layout.Layout.{Layout}

@@ -1,6 +1,6 @@
-ghost use Rattle.std.specs.Prelude.{◌≡◌, ◌<◌};
+ghost use Rattle.std.specs.Prelude.{◌≡◌, ◌<◌, true};
 ghost use Rattle.c_types.specs.Types.{count_of};
-ghost use Rattle.c_types.specs.CType.{type_of};
+ghost use Rattle.c_types.specs.CType.{CType, type_of};
 ghost use Rattle.c_types.specs.Functions.{IsFunction, parameters_of};
 ghost use Rattle.c_types.specs.Compatible.{compatible, agree, bare_agree, all_agree, lengths_agree, same_quals, is_int, leaves_agree};
 ghost use Rattle.c_types.specs.CType.{bare_of};
@@ -88,6 +88,14 @@ impl TypeTable {
         true
     }
 }
+
+/// A law of compatible types: each is compatible with itself, and none has to come first.
+///
+/// There is no third law: `int` is compatible with each enumerated type, and no two of these with each other.
+pub fn compatibility_law()
+    ensures reflexive { (a : CType) → compatible a a ≡ true }
+    ensures symmetric { (a b : CType) → compatible a b ≡ compatible b a }
+{}
 
 // Identically qualified.
 fn same_quals(left: Quals, right: Quals) -> bool

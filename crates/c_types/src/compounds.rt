@@ -1,11 +1,17 @@
-ghost use Rattle.std.specs.Prelude.{◌≡◌, ◌<◌, IfOk, OnErr, option_map};
+ghost use Rattle.std.specs.Prelude.{◌≡◌, ◌<◌, Some, None, All, length, IfOk, IfErr, OnOk, OnErr, option_map};
+ghost use Rattle.c_types.specs.declared.member.Member.{Member};
+ghost use Rattle.c_types.specs.declared.shape.TypeId.{TypeId};
 ghost use Rattle.c_types.specs.Types.{CompoundBody, count_of};
 ghost use Rattle.c_types.specs.CType.{type_of};
-ghost use Rattle.c_types.specs.Compounds.{IsCompound, MakesCompound, compound_at, members_at, member_named};
-ghost use Rattle.c_types.specs.Inner.{compound_of};
+ghost use Rattle.c_types.specs.Compounds.{IsCompound, IsIncomplete, IsBodyOf, Completes, with_body, number_in, parts_at, MakesCompound, compound_at, members_at, member_named};
+ghost use Rattle.c_types.specs.Layouts.{layouts_of, compound_fault, IsForWant, IsBuilt};
+ghost use Rattle.c_types.specs.Inner.{compound_of, body_of};
 
+use crate::fault::{BuildFault, LayoutFault};
+use crate::layout::Layout;
 use crate::member::Member;
-use crate::parts::{CompoundType, Made};
+use crate::parts::{Body, CompoundType, Made};
+use crate::placing::{members_with, places_with, size_with, strictest};
 use crate::shape::{Shape, TypeId};
 use crate::table::TypeTable;
 use critical_table::Name;
@@ -29,6 +35,99 @@ impl TypeTable {
             return Err(AllocError);
         }
         Ok(id)
+    }
+
+    /// Gives an incomplete structure or union its members, which have these names and types (6.7.2.1p15 to p17).
+    ///
+    /// `Incomplete` comes exactly where the type of a member has no size, and else `TooLarge` where the type would
+    /// have more than 16,777,216 bytes.
+    pub fn complete(
+        &mut self,
+        id: TypeId,
+        names: &[Name],
+        types: &[TypeId],
+    ) -> Result<(), BuildFault>
+        requires is_there { id.0 < count_of self.old }
+        requires incomplete { IsIncomplete self.old (type_of self.old id) }
+        requires types { All (λ (id : TypeId). id.0 < count_of self.old) types.now }
+        requires pairs { length types.now ≡ length names.now }
+        requires some { 0 < length names.now }
+
+        ensures ok { OnOk result (Completes self.old self.new id names.now types.now) }
+        ensures fault { IsBuilt (compound_fault (compound_at self.old (type_of self.old id)).is_union
+            (layouts_of self.old types.now)) result }
+        ensures err { OnErr result (self.new ≡ self.old) }
+    {
+        let number = self.compound_number(id);
+        let body = self.body(self.is_union(id), names, types)?;
+        self.set_body(number, body);
+        Ok(())
+    }
+
+    // The members in order, and the layout of a type that has them.
+    #[tactic(auto, using(crate::proofs::Members::all_members_with))]
+    fn body(&self, is_union: bool, names: &[Name], types: &[TypeId]) -> Result<Body, BuildFault>
+        requires types { All (λ (id : TypeId). id.0 < count_of self.now) types.now }
+        requires pairs { length types.now ≡ length names.now }
+        ensures body { IfOk result (λ body. IsBodyOf self.now is_union names.now types.now (body_of body)) }
+        ensures members { IfOk result (λ body. All (λ (m : Member). m.of.0 < count_of self.now) body.members.items) }
+        ensures fault { IsBuilt (compound_fault is_union (layouts_of self.now types.now)) result }
+    {
+        let layouts = self.layouts(types)?;
+        let size = size_with(is_union, &layouts)?;
+        let places = places_with(self.alloc, is_union, &layouts)?;
+        let members = members_with(self.alloc, names, types, &places)?;
+        let align = strictest(&layouts);
+        Ok(Body {
+            members,
+            layout: Layout { size, align },
+        })
+    }
+
+    // The number of a structure or union.
+    fn compound_number(&self, id: TypeId) -> u64
+        requires is_there { id.0 < count_of self.now }
+        requires compound { IsCompound (type_of self.now id) }
+        ensures number { result ≡ number_in (type_of self.now id) }
+        ensures below { result < length self.now.compounds }
+        ensures parts { compound_at self.now (type_of self.now id) ≡ parts_at self.now result }
+    {
+        match self.shape(id) {
+            Shape::Compound(number) => number,
+            _ => unreachable!(),
+        }
+    }
+
+    // Gives an incomplete structure or union its body.
+    fn set_body(&mut self, number: u64, body: Body)
+        requires is_there { number < length self.old.compounds }
+        requires incomplete { (parts_at self.old number).body ≡ None }
+        requires members { All (λ (m : Member). m.of.0 < count_of self.old) body.members.items }
+        ensures { self.new ≡ with_body self.old number (record {
+          is_union = (parts_at self.old number).is_union;
+          body = Some (body_of body);
+        }) }
+    {
+        self.compounds[number as usize].body = Some(body);
+    }
+
+    // The layouts of some types.
+    //
+    // `Incomplete` comes exactly where one has none.
+    fn layouts(&self, types: &[TypeId]) -> Result<Vec<Layout>, BuildFault>
+        requires { All (λ (id : TypeId). id.0 < count_of self.now) types.now }
+        ensures found { IfOk result (λ layouts. layouts_of self.now types.now ≡ Some layouts.items) }
+        ensures count { IfOk result (λ layouts. length layouts.items ≡ length types.now) }
+        ensures fault { IfErr result (IsForWant (layouts_of self.now types.now)) }
+    {
+        let mut layouts = Vec::new(self.alloc);
+        for id in types {
+            match self.layout(*id) {
+                Some(layout) => layouts.push(layout)?,
+                None => return Err(BuildFault::Layout(LayoutFault::Incomplete)),
+            }
+        }
+        Ok(layouts)
     }
 
     // The parts of a structure or union.

@@ -1,4 +1,4 @@
-use std::alloc::AllocError;
+use std::alloc::{AllocError, AllocFailed};
 use thiserror::Error;
 
 /// Why a type has no layout that an object could have.
@@ -40,5 +40,16 @@ impl From<AllocError> for BuildFault {
 
     fn from(cause: AllocError) -> BuildFault {
         BuildFault::Memory(cause)
+    }
+}
+
+impl<T: Drop> From<AllocFailed<T>> for BuildFault {
+    ghost use Rattle.std.specs.Prelude.{◌≡◌, alloc_error};
+    ghost use Rattle.c_types.specs.declared.fault.BuildFault.{BuildFault};
+
+    ghost from_gives = { λ _ fault. fault ≡ BuildFault.Memory alloc_error };
+
+    fn from(_cause: AllocFailed<T>) -> BuildFault {
+        BuildFault::Memory(AllocError)
     }
 }

@@ -59,7 +59,10 @@ pub const LARGEST: u32 = 16_777_216;
 ///
 /// `Incomplete` comes exactly where the elements have no layout, and else `TooLarge` where the array would have more
 /// than the largest size.
-pub fn array_layout(element: Option<Layout>, length: Option<u64>) -> Result<Option<Layout>, LayoutFault>
+pub fn array_layout(
+    element: Option<Layout>,
+    length: Option<u64>,
+) -> Result<Option<Layout>, LayoutFault>
     ensures layout { IfOk result (λ layout. layout ≡ array_layout element length) }
     ensures fault { array_fault element length ≡ result_err result }
 {

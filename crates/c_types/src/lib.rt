@@ -10,12 +10,17 @@ pub mod layout;
 pub mod member;
 pub mod parts;
 mod placing;
+mod qualified;
 pub mod shape;
 pub mod table;
 
 pub use basic::Basic;
+pub use compatible::compatibility_law;
 pub use fault::{BuildFault, LayoutFault};
 pub use layout::Layout;
 pub use member::Member;
 pub use shape::{Quals, Shape, TypeId};
 pub use table::TypeTable;
+
+#[cfg(test)]
+mod tests;

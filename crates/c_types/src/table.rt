@@ -6,6 +6,7 @@ ghost use Rattle.c_types.specs.Shapes.{RefersBelow, ShowsType, entry_at};
 ghost use Rattle.c_types.specs.Layouts.{layout_of, compound_layout, array_fault, IsBuilt};
 ghost use Rattle.c_types.specs.Inner.{KeepsLayout, basics};
 ghost use Rattle.c_types.specs.Making.{MakesType};
+ghost use Rattle.c_types.specs.Qualified.{MakesMore};
 
 use crate::basic::Basic;
 use crate::fault::BuildFault;
@@ -64,11 +65,15 @@ impl TypeTable {
             (type_with self.old.functions (all_types self.old) shape quals) self.old.compounds }
         ensures made { IfOk result (λ id. MakesType self.old self.new id
             (type_with self.old.functions (all_types self.old) shape quals)) }
-        ensures functions { self.new.functions ≡ self.old.functions }
+        ensures more { MakesMore self.old self.new }
         ensures err { OnErr result (self.new ≡ self.old) }
     {
         let id = TypeId(self.made.len() as u64);
-        self.made.push(Made { shape, quals, layout })?;
+        self.made.push(Made {
+            shape,
+            quals,
+            layout,
+        })?;
         Ok(id)
     }
 

@@ -1,4 +1,4 @@
-use Rattle.std.proofs.Common.{◌≡◌, ◌<◌, ◌≤◌, length, arith, subst}
+use Rattle.std.proofs.Common.{◌<◌, ◌≤◌, length, arith}
 use Rattle.c_types.specs.CType.{all_types}
 use Rattle.c_types.proofs.Parameters.{lengths_differ, next_agree, next_differ, none_left}
 use Rattle.c_types.proofs.table.TypeTable.+agree.Goals as goal

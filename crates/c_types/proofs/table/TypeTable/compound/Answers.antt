@@ -40,4 +40,4 @@ returns-clause-made c =
     let id : TypeId = record { 0 = c.len.result } in
     let new = types_of (record { alloc = c.self.inside.alloc; made = c.push.new.self; functions = c.self.inside.functions; compounds = c.push-2.new.self }) in
     subst (λ (t : Types). MakesCompound t new id c.args.is_union) c.self.view_is
-      (subst (λ (t : Types). MakesCompound old t id c.args.is_union) (sym same) (makes-with_compound_type old c.args.is_union id (search rules)))
+    (subst (λ (t : Types). MakesCompound old t id c.args.is_union) (sym same) (makes-with_compound_type old c.args.is_union id (search rules)))

@@ -1,7 +1,7 @@
 use Rattle.std.proofs.Common.{◌≡◌, ap, subst, sym, ◌∙◌}
 use Rattle.std.proofs.lemmas.List.{get_or_read}
 use Rattle.c_types.specs.declared.parts.Made.{Made}
-use Rattle.c_types.specs.Types.{Types, count_of}
+use Rattle.c_types.specs.Types.{Types}
 use Rattle.c_types.specs.CType.{type_of}
 use Rattle.c_types.specs.Inner.{types_of, KeepsLayout}
 use Rattle.c_types.specs.Shapes.{ShowsType, entry_at, no_entry}
@@ -18,7 +18,7 @@ returns c =
     record {
       entry = read ∙ ap (λ (t : Types). entry_at t id.0) c.self.view_is;
       shows = subst (λ (t : Types). ShowsType t id m.shape) c.self.view_is
-        (subst (λ (e : Made). ShowsType old id e.shape) (sym read) (shows old id below (c.self.invariant.refers _ below)));
+          (subst (λ (e : Made). ShowsType old id e.shape) (sym read) (shows old id below (c.self.invariant.refers _ below)));
       layout = subst (λ (t : Types). KeepsLayout m.shape m.layout (type_of t id) t.compounds) c.self.view_is
-        (subst (λ (e : Made). KeepsLayout e.shape e.layout (type_of old id) old.compounds) (sym read) (c.self.invariant.layouts id below));
+          (subst (λ (e : Made). KeepsLayout e.shape e.layout (type_of old id) old.compounds) (sym read) (c.self.invariant.layouts id below));
     }

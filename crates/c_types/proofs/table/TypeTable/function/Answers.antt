@@ -7,7 +7,7 @@ use Rattle.c_types.specs.Types.{Types, count_of}
 use Rattle.c_types.specs.CType.{Plain, Function, type_of, types_at, all_types, unqualified}
 use Rattle.c_types.specs.Making.{MakesType}
 use Rattle.c_types.specs.Inner.{types_of, parts_of, IsSound}
-use Rattle.c_types.proofs.WithFunction.{IsBelow, with_function_type, fields-with_function_type, sound-with_function_type, makes-with_function_type, pushed}
+use Rattle.c_types.proofs.WithFunction.{fields-with_function_type, sound-with_function_type, makes-with_function_type, pushed}
 use Rattle.c_types.proofs.table.TypeTable.function.Goals as goal
 
 pub invariant_of-self-else-is_err : goal.invariant_of-self-else-is_err
@@ -24,8 +24,8 @@ invariant_of-self-else-is_err c =
     let same = fields-with_function_type c.self.inside.made.items c.push.new.self.items c.self.inside.functions.items c.push-2.new.self.items c.self.inside.compounds.items sig made functions in
     let gives : c.args.gives.0 < count_of old = subst (λ (t : Types). c.args.gives.0 < count_of t) (sym c.self.view_is) c.requires.gives in
     let parameters : All (λ (p : TypeId). p.0 < count_of old) sig.parameters.items =
-        subst (λ (t : Types). All (λ (p : TypeId). p.0 < count_of t) sig.parameters.items) (sym c.self.view_is)
-          (subst (λ (ps : List TypeId). All (λ (p : TypeId). p.0 < count_of c.args.self.now) ps) (sym c.in_ok-parameters.ensures.items) c.requires.parameters) in
+    subst (λ (t : Types). All (λ (p : TypeId). p.0 < count_of t) sig.parameters.items) (sym c.self.view_is)
+    (subst (λ (ps : List TypeId). All (λ (p : TypeId). p.0 < count_of c.args.self.now) ps) (sym c.in_ok-parameters.ensures.items) c.requires.parameters) in
     subst IsSound (sym same) (sound-with_function_type old (parts_of sig) c.self.invariant (gives, parameters))
 
 pub returns-clause-made : goal.returns-clause-made
@@ -44,6 +44,6 @@ returns-clause-made c =
     let makes = makes-with_function_type old (parts_of sig) id c.self.invariant (search rules) in
     let new = types_of (record { alloc = c.self.inside.alloc; made = c.push.new.self; functions = c.push-2.new.self; compounds = c.self.inside.compounds }) in
     let made_new : MakesType old new id (Plain (Function (type_of old sig.gives) (types_at (all_types old) sig.parameters.items) sig.variadic) unqualified) =
-        subst (λ (t : Types). MakesType old t id (Plain (Function (type_of old sig.gives) (types_at (all_types old) sig.parameters.items) sig.variadic) unqualified)) (sym same) makes in
+    subst (λ (t : Types). MakesType old t id (Plain (Function (type_of old sig.gives) (types_at (all_types old) sig.parameters.items) sig.variadic) unqualified)) (sym same) makes in
     subst (λ (t : Types). MakesType t new id (Plain (Function (type_of t c.args.gives) (types_at (all_types t) c.args.parameters.now) c.args.variadic) unqualified)) c.self.view_is
-      (subst (λ (ps : List TypeId). MakesType old new id (Plain (Function (type_of old c.args.gives) (types_at (all_types old) ps) c.args.variadic) unqualified)) c.in_ok-parameters.ensures.items made_new)
+    (subst (λ (ps : List TypeId). MakesType old new id (Plain (Function (type_of old c.args.gives) (types_at (all_types old) ps) c.args.variadic) unqualified)) c.in_ok-parameters.ensures.items made_new)

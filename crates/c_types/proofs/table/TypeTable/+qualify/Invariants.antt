@@ -1,0 +1,4 @@
+use Rattle.c_types.proofs.table.TypeTable.+qualify.Given as goal
+
+abbrev pub decreases-qualify : goal.decreases-qualify
+decreases-qualify l = l.id.0
