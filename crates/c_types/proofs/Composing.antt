@@ -84,6 +84,7 @@ pointers_agree types a b shape shape' to to' shows shows' is is' h =
     shown : (id : TypeId) (x : Shape) (t : TypeId) → ShowsType types id x → x ≡ s.Pointer t → (q : Quals) × (type_of types id ≡ Plain (Pointer (type_of types t)) q)
     shown id x t sh e =
         ((entry_at types id.0).quals, sh.stands_for ∙ ap (λ (y : Shape). type_with types.functions (all_types types) y (entry_at types id.0).quals) e)
+
     inner : (x y : CType) → (q : Quals) × (x ≡ Plain (Pointer (type_of types to)) q) → (q : Quals) × (y ≡ Plain (Pointer (type_of types to')) q) → agree x y false ≡ true → agree (type_of types to) (type_of types to') false ≡ true
     inner x y p p' g = agree-loose (type_of types to) (type_of types to') (sym (ap (λ z. agree z y false) p.1 ∙ ap (λ z. agree (Plain (Pointer (type_of types to)) p.0) z false) p'.1) ∙ g)
 

@@ -62,7 +62,7 @@ compose_functions-returns-clause-made t c =
     let q : c.gives-other.result.0 < count_of old = omega (arith, c.gives-other.ensures.below, c.requires.b) in
     IfOk-weaker c.qualify.result _ _
     (λ id made. composes_function old c.compose_parameters.new.self c.compose.new.self c.function.new.self c.qualify.new.self _ _ _ _ c.gives-given.result c.gives-other.result c.in_ok-gives.gives c.in_ok-bare.bare id _ _ c.requires.a_function c.requires.b_function p q c.gives-given.ensures.stands_for c.gives-other.ensures.stands_for c.is_variadic-variadic.ensures c.quals-quals.ensures c.in_ok-parameters.ensures.made c.in_ok-gives.ensures.made
-        c.in_ok-bare.ensures.made c.deref.ensures.value made)
+    c.in_ok-bare.ensures.made c.deref.ensures.value made)
     c.qualify.ensures.made
 
 pub compose_parameters-returns-in_err-left-clause-more :
