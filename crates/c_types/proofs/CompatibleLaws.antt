@@ -8,7 +8,7 @@ use Rattle.c_types.specs.Compatible.{agree, bare_agree, all_agree, same_bool, sa
 same_number : (m n : ℕ) → (m == n) ≡ (n == m)
 same_number m n = grind arith
 
-own_number : (n : ℕ) → (n == n) ≡ true
+pub own_number : (n : ℕ) → (n == n) ≡ true
 own_number n = grind arith
 
 same_bool-sym : (a b : Bool) → same_bool a b ≡ same_bool b a
@@ -17,7 +17,7 @@ same_bool-sym true false = refl
 same_bool-sym false true = refl
 same_bool-sym false false = refl
 
-same_bool-own : (a : Bool) → same_bool a a ≡ true
+pub same_bool-own : (a : Bool) → same_bool a a ≡ true
 same_bool-own true = refl
 same_bool-own false = refl
 
@@ -28,7 +28,7 @@ same_quals-sym : (q r : Quals) → same_quals q r ≡ same_quals r q
 same_quals-sym q r =
     both _ _ _ _ (both _ _ _ _ (same_bool-sym q.constant r.constant) (same_bool-sym q.volatile r.volatile)) (same_bool-sym q.restricted r.restricted)
 
-same_quals-own : (q : Quals) → same_quals q q ≡ true
+pub same_quals-own : (q : Quals) → same_quals q q ≡ true
 same_quals-own q = both _ _ true true (both _ _ true true (same_bool-own q.constant) (same_bool-own q.volatile)) (same_bool-own q.restricted)
 
 lengths-sym : (m n : Option ℕ) → lengths_agree m n ≡ lengths_agree n m
@@ -37,7 +37,7 @@ lengths-sym None (Some n) = refl
 lengths-sym (Some m) None = refl
 lengths-sym (Some m) (Some n) = same_number m n
 
-lengths-own : (m : Option ℕ) → lengths_agree m m ≡ true
+pub lengths-own : (m : Option ℕ) → lengths_agree m m ≡ true
 lengths-own None = refl
 lengths-own (Some m) = own_number m
 
@@ -65,7 +65,7 @@ mutual
   all_agree-sym Nil (Cons q qs) = refl
   all_agree-sym (Cons p ps) Nil = refl
 
-either_way : (strict s : Bool) → s ≡ true → (not strict || s) ≡ true
+pub either_way : (strict s : Bool) → s ≡ true → (not strict || s) ≡ true
 either_way true s e = e
 either_way false s e = refl
 
@@ -76,7 +76,7 @@ mutual
   agree-own (Plain x q) strict = both _ _ true true (either_way strict _ (same_quals-own q)) (bare_agree-own x)
   agree-own (Array t m) strict = both _ _ true true (lengths-own m) (agree-own t strict)
 
-  bare_agree-own : (x : Bare) → bare_agree x x ≡ true
+  pub bare_agree-own : (x : Bare) → bare_agree x x ≡ true
   bare_agree-own (Basic' a) = own_number (number_of a)
   bare_agree-own (Compound m) = own_number m
   bare_agree-own (Enumerated m) = own_number m

@@ -62,7 +62,7 @@ sound-fresh =
 place_below : (basic : Basic) → number_of basic < 13
 place_below basic = grind arith
 
-first_entry : (basic : Basic) → slice_index_or basics (number_of basic) no_entry ≡ entry_of basic
+pub first_entry : (basic : Basic) → slice_index_or basics (number_of basic) no_entry ≡ entry_of basic
 first_entry b.Void = refl
 first_entry b.Bool = refl
 first_entry b.Char = refl

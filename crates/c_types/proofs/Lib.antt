@@ -1,4 +1,7 @@
 pub mod CompatibleLaws
+pub mod CompositeLaws
+pub mod Composites
+pub mod Composing
 pub mod Ends
 pub mod Fresh
 pub mod Grows

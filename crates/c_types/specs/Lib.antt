@@ -7,4 +7,5 @@ pub mod Qualified
 pub mod Functions
 pub mod Compounds
 pub mod Compatible
+pub mod Composite
 pub mod Inner

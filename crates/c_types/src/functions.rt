@@ -4,6 +4,7 @@ ghost use Rattle.c_types.specs.Types.{count_of};
 ghost use Rattle.c_types.specs.CType.{Plain, Function, type_of, types_at, all_types, unqualified, bare_of};
 ghost use Rattle.c_types.specs.Functions.{IsFunction, gives_of, parameters_of, variadic_of};
 ghost use Rattle.c_types.specs.Making.{MakesType};
+ghost use Rattle.c_types.specs.Composite.{AddsTypes};
 
 use crate::parts::{Made, Signature};
 use crate::shape::{Quals, Shape, TypeId};
@@ -22,6 +23,7 @@ impl TypeTable {
         requires parameters { All (λ (p : TypeId). p.0 < count_of self.old) parameters.now }
         ensures made { IfOk result (λ id. MakesType self.old self.new id (Plain (Function
             (type_of self.old gives) (types_at (all_types self.old) parameters.now) variadic) unqualified)) }
+        ensures more { IfOk result (λ _. AddsTypes self.old self.new) }
         ensures err { OnErr result (self.new ≡ self.old) }
     {
         let number = self.functions.len() as u64;

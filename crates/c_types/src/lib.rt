@@ -3,6 +3,7 @@
 
 pub mod basic;
 mod compatible;
+mod composite;
 mod compounds;
 pub mod fault;
 mod functions;
@@ -16,6 +17,7 @@ pub mod table;
 
 pub use basic::Basic;
 pub use compatible::compatibility_law;
+pub use composite::composite_law;
 pub use fault::{BuildFault, LayoutFault};
 pub use layout::Layout;
 pub use member::Member;

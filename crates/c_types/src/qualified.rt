@@ -25,7 +25,7 @@ impl TypeTable {
     }
 
     // The same, where types of elements may be left over for want of memory.
-    fn qualify(&mut self, id: TypeId, quals: Quals) -> Result<TypeId, AllocError>
+    pub(crate) fn qualify(&mut self, id: TypeId, quals: Quals) -> Result<TypeId, AllocError>
         requires { id.0 < count_of self.old }
         ensures made { IfOk result
             (λ new. MakesType self.old self.new new (with_quals quals (type_of self.old id))) }

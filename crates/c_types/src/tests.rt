@@ -84,12 +84,38 @@ fn lays_out_like_gcc(rt: HostRuntime) -> Result<(), Fail> {
 }
 
 #[test]
+fn lays_out_arrays_like_gcc(rt: HostRuntime) -> Result<(), Fail> {
+    let mut table = TypeTable::new(rt.alloc())?;
+    let t = &mut table;
+    let char = t.basic(Basic::Char);
+    let short = t.basic(Basic::Short);
+    let int = t.basic(Basic::Int);
+    let pointer = t.pointer(char)?;
+    let three = t.array(char, Some(3))?;
+    let five = t.array(int, Some(5))?;
+    let (_, layout) = laid_out(t, rt.alloc(), false, three, int, char)?;
+    assert_eq!(rt; layout, [Some(12), Some(4), Some(0), Some(4), Some(8)]);
+    let (_, layout) = laid_out(t, rt.alloc(), false, short, five, char)?;
+    assert_eq!(rt; layout, [Some(28), Some(4), Some(0), Some(4), Some(24)]);
+    let (_, layout) = laid_out(t, rt.alloc(), true, three, short, char)?;
+    assert_eq!(rt; layout, [Some(4), Some(2), Some(0), Some(0), Some(0)]);
+    let (_, layout) = laid_out(t, rt.alloc(), true, pointer, five, char)?;
+    assert_eq!(rt; layout, [Some(24), Some(8), Some(0), Some(0), Some(0)]);
+    Ok(())
+}
+
+#[test]
 fn takes_the_largest_array_and_no_larger(rt: HostRuntime) -> Result<(), Fail> {
     let mut table = TypeTable::new(rt.alloc())?;
     let char = table.basic(Basic::Char);
     let largest = table.array(char, Some(16_777_216))?;
     assert_eq!(rt; table.size_of(largest), Some(16_777_216));
     let more = table.array(char, Some(16_777_217));
+    assert!(rt; matches!(more, Err(BuildFault::Layout(LayoutFault::TooLarge))));
+    let row = table.array(char, Some(4_096))?;
+    let rows = table.array(row, Some(4_096))?;
+    assert_eq!(rt; table.size_of(rows), Some(16_777_216));
+    let more = table.array(row, Some(4_097));
     assert!(rt; matches!(more, Err(BuildFault::Layout(LayoutFault::TooLarge))));
     let void = table.basic(Basic::Void);
     let none = table.array(void, Some(1));
@@ -114,5 +140,62 @@ fn compares_functions_without_the_qualifiers_of_parameters(rt: HostRuntime) -> R
     assert!(rt; !table.compatible(int, constant));
     let colour = table.enumerated()?;
     assert!(rt; table.compatible(int, colour));
+    Ok(())
+}
+
+// The size of the composite of compatible types: of what it points to, or of what its first parameter points to.
+fn composed_size(table: &mut TypeTable, a: TypeId, b: TypeId) -> Result<Option<u32>, Fail>
+    requires a { a.0 < count_of table.old }
+    requires b { b.0 < count_of table.old }
+    ensures { IfOk result (λ _. count_of table.old ≤ count_of table.new) }
+{
+    if !table.compatible(a, b) {
+        return Ok(None);
+    }
+    let composite = table.composite(a, b)?;
+    Ok(size_behind(table, first_parameter(table, composite)))
+}
+
+// The first parameter of a function; another type itself.
+fn first_parameter(table: &TypeTable, id: TypeId) -> TypeId
+    requires { id.0 < count_of table.now }
+    ensures { result.0 < count_of table.now }
+{
+    if let Shape::Function(_) = table.shape(id) {
+        let parameters = table.parameters(id);
+        if !parameters.is_empty() {
+            return parameters[0];
+        }
+    }
+    id
+}
+
+fn size_behind(table: &TypeTable, id: TypeId) -> Option<u32>
+    requires { id.0 < count_of table.now }
+{
+    match table.shape(id) {
+        Shape::Pointer(to) => table.size_of(to),
+        _ => table.size_of(id),
+    }
+}
+
+#[test]
+fn composes_the_length_that_either_gives(rt: HostRuntime) -> Result<(), Fail> {
+    let mut table = TypeTable::new(rt.alloc())?;
+    let t = &mut table;
+    let char = t.basic(Basic::Char);
+    let open = t.array(char, None)?;
+    let three = t.array(char, Some(3))?;
+    let to_open = t.pointer(open)?;
+    let to_three = t.pointer(three)?;
+    let takes_open = t.function(char, &[to_open], false)?;
+    let takes_three = t.function(char, &[to_three], false)?;
+    assert_eq!(rt; composed_size(t, open, three)?, Some(3));
+    assert_eq!(rt; composed_size(t, three, open)?, Some(3));
+    assert_eq!(rt; composed_size(t, open, open)?, None);
+    assert_eq!(rt; composed_size(t, to_open, to_three)?, Some(3));
+    assert_eq!(rt; composed_size(t, to_three, to_open)?, Some(3));
+    assert_eq!(rt; composed_size(t, takes_open, takes_three)?, Some(3));
+    assert_eq!(rt; composed_size(t, takes_three, takes_open)?, Some(3));
     Ok(())
 }
