@@ -1,5 +1,5 @@
 -- What the steps towards a composite type make of a table.
-use Rattle.std.proofs.Common.{◌≡◌, ℕ, ◌+◌, ◌<◌, ◌≤◌, List, [], ◌∷◌, ◌++◌, length, take, map, All, refl, ap, sym, subst, ◌∙◌, arith, slice_index_or, append-nil, append_assoc, length-append}
+use Rattle.std.proofs.Common.{◌≡◌, ℕ, ◌+◌, ◌<◌, ◌≤◌, List, [], ◌∷◌, ◌++◌, length, take, map, All, refl, ap, sym, subst, ◌∙◌, arith, slice_index_or, append-nil, append_assoc}
 use Rattle.std.specs.Prelude.{Bool, true, false, Option}
 use Rattle.std.proofs.lemmas.List.{take-map, take_all}
 use Rattle.std.proofs.lemmas.List.Elements.{All-append, All-cons, All-nil, All-get_or, All-weaker, All-head, All-tail}
@@ -13,7 +13,7 @@ use Rattle.c_types.specs.declared.parts.Signature.{Signature}
 use Rattle.c_types.specs.declared.parts.CompoundType.{CompoundType}
 use Rattle.c_types.specs.declared.layout.Layout.{Layout}
 use Rattle.c_types.specs.Types.{Types, FunctionParts, count_of}
-use Rattle.c_types.specs.CType.{CType, CTypes, Plain, Array, Pointer, Function, Nil, Cons, type_with, quals_of, type_at, types_at, type_of, all_types, unqualified}
+use Rattle.c_types.specs.CType.{CType, CTypes, Plain, Array, Pointer, Function, Nil, Cons, type_with, quals_of, types_at, type_of, all_types, unqualified}
 use Rattle.c_types.specs.Shapes.{ShowsType, entry_at}
 use Rattle.c_types.specs.Functions.{IsFunction, gives_of, parameters_of, variadic_of}
 use Rattle.c_types.specs.Making.{KeepsTypes, MakesType}

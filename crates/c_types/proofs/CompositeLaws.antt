@@ -1,7 +1,7 @@
 -- A composite type is compatible with both types.
-use Rattle.std.proofs.Common.{◌≡◌, refl, ap, ◌∙◌}
-use Rattle.std.specs.Prelude.{ℕ, Bool, true, false, not, ◌&&◌, ◌||◌, ◌==◌, Option, Some, None}
-use Rattle.c_types.specs.CType.{CType, CTypes, Bare, Plain, Array, Basic', Pointer, Function, Compound, Enumerated, Nil, Cons, number_of}
+use Rattle.std.proofs.Common.{◌≡◌, refl}
+use Rattle.std.specs.Prelude.{ℕ, Bool, true, false, not, ◌&&◌, ◌||◌, Option, Some, None}
+use Rattle.c_types.specs.CType.{CType, CTypes, Bare, Plain, Array, Pointer, Function, Nil, Cons}
 use Rattle.c_types.specs.Compatible.{agree, bare_agree, all_agree, same_bool, same_quals, lengths_agree}
 use Rattle.c_types.specs.Composite.{composite_of, bare_composite, all_composites, known_length}
 use Rattle.c_types.proofs.Composites.{left_true, right_true, both_true}

@@ -1,6 +1,6 @@
 -- The composite of compatible types: its layout, and its parameters from the front.
-use Rattle.std.proofs.Common.{◌≡◌, ℕ, zero, suc, ◌+◌, ◌<◌, ◌≤◌, List, [], ◌∷◌, ◌++◌, length, take, All, refl, ap, sym, subst, ◌∙◌, arith, slice_index_or}
-use Rattle.std.specs.Prelude.{Bool, true, false, not, ◌&&◌, ◌||◌, ◌==◌, Option, Some, None, IsSome, option_map, slice_get}
+use Rattle.std.proofs.Common.{◌≡◌, ℕ, zero, suc, ◌+◌, ◌<◌, List, [], ◌∷◌, ◌++◌, length, take, refl, ap, sym, subst, ◌∙◌, arith, slice_index_or}
+use Rattle.std.specs.Prelude.{Bool, true, false, ◌&&◌, ◌==◌, Option, Some, None, IsSome, option_map, slice_get}
 use Rattle.c_types.specs.declared.layout.Layout.{Layout}
 use Rattle.c_types.specs.declared.basic.Basic.{Basic}
 use Rattle.c_types.specs.declared.basic.Basic.TheVariants as b
@@ -11,7 +11,7 @@ use Rattle.c_types.specs.Types.{CompoundParts}
 use Rattle.c_types.specs.CType.{CType, CTypes, Bare, Plain, Array, Basic', Pointer, Function, Compound, Enumerated, Nil, Cons, type_at, types_at, number_of, void}
 use Rattle.c_types.specs.Layouts.{layout_of, bare_layout, basic_layout, compound_layout, scalar, repeated}
 use Rattle.c_types.specs.Compatible.{agree, bare_agree, all_agree, lengths_agree}
-use Rattle.c_types.specs.Composite.{composite_of, bare_composite, all_composites, known_length}
+use Rattle.c_types.specs.Composite.{composite_of, bare_composite, all_composites}
 use Rattle.c_types.specs.Inner.{KeepsLayout, basics}
 use Rattle.c_types.specs.Shapes.{no_entry}
 use Rattle.c_types.proofs.Fresh.{first_entry}

@@ -1,14 +1,7 @@
-use Rattle.std.proofs.Common.{◌≡◌, List, ◌<◌, ◌≤◌, ◌∷◌, [], ◌++◌, All, length, take, rules, arith, refl, ap, sym, subst, ◌∙◌, slice_index_or}
-use Rattle.std.specs.Prelude.{true, false}
+use Rattle.std.proofs.Common.{◌<◌, ◌≤◌, length, rules, arith, ap, ◌∙◌}
 use Rattle.std.proofs.lemmas.Result.{IfOk-weaker}
-use Rattle.c_types.specs.declared.shape.TypeId.{TypeId}
 use Rattle.c_types.specs.Types.{count_of}
-use Rattle.c_types.specs.CType.{CType, CTypes, type_of, types_at, all_types}
-use Rattle.c_types.specs.Functions.{parameters_of}
-use Rattle.c_types.specs.Making.{MakesType}
-use Rattle.c_types.specs.Qualified.{with_quals}
-use Rattle.c_types.specs.Compatible.{agree, all_agree}
-use Rattle.c_types.specs.Composite.{composite_of, all_composites, AddsTypes, MakesTypes}
+use Rattle.c_types.specs.CType.{type_of, all_types}
 use Rattle.c_types.proofs.Composites.{keeps-first, keeps-second, same_lengths, agree_at}
 use Rattle.c_types.proofs.Composing.{adds-none, adds-then, agree_as, pointers_agree, functions_agree, array_shown, elements_agree, kept_array, composes_function, makes-none, makes-next, makes-all, lists_agree, below_at}
 use Rattle.c_types.proofs.table.TypeTable.+compose.Goals as goal
