@@ -1,0 +1,6 @@
+pub mod Values
+pub mod Tables
+pub mod WordLaws
+pub mod Cases
+pub mod Runs
+pub mod NumberLaws

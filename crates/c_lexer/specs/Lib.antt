@@ -6,3 +6,5 @@ pub mod Marks
 pub mod Stream
 pub mod Numbers
 pub mod ReadNumber
+pub mod Characters
+pub mod ReadCharacters

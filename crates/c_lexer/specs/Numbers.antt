@@ -49,18 +49,24 @@ suffixes =
     ∷ (codes "llu", (true, 2)) ∷ (codes "llU", (true, 2)) ∷ (codes "LLu", (true, 2)) ∷ (codes "LLU", (true, 2))
     ∷ []
 
--- the text is a prefix, digits and a suffix, and the number is what they say
-pub record IsNumber (text : List ℕ) (number : Number) : Type 0 where
-  pub base : Base
-  pub before : List ℕ
+-- the text is digits of the base and a suffix, and the number is what they say
+pub record IsConstant (base : Base) (text : List ℕ) (number : Number) : Type 0 where
   pub digits : List ℕ
   pub suffix : List ℕ
-  pub parts : text ≡ before ++ (digits ++ suffix)
-  pub prefix : IsPrefix base before
+  pub parts : text ≡ digits ++ suffix
   pub some : 0 < length digits
-  pub first : IsFirst base (slice_index digits 0)
   pub each : list_all (is_in (digits_of base)) digits ≡ true
   pub ending : lookup suffixes suffix ≡ Some (number.unsigned, number.longs)
   pub value : number.value ≡ digits_value (radix base) digits
   pub fits : digits_value (radix base) digits < 2 ^ 64
   pub notation : number.decimal ≡ is_decimal base
+
+-- the text spells the number
+pub record IsNumber (text : List ℕ) (number : Number) : Type 0 where
+  pub base : Base
+  pub before : List ℕ
+  pub after : List ℕ
+  pub parts : text ≡ before ++ after
+  pub prefix : IsPrefix base before
+  pub first : IsFirst base (slice_index after 0)
+  pub constant : IsConstant base after number

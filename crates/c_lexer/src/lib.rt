@@ -3,6 +3,7 @@
 #![tactic(auto)]
 
 mod bytes;
+mod characters;
 mod fault;
 mod number;
 mod punct;

@@ -1,10 +1,10 @@
-ghost use Rattle.std.specs.Prelude.{◌≡◌, ℕ, ◌≤◌, ◌<◌, ◌^◌, length, map, true, take, drop};
-ghost use Rattle.std.specs.List.{list_all};
+ghost use Rattle.std.specs.Prelude.{◌≡◌, ℕ, ◌≤◌, ◌<◌, ◌^◌, length, map, IfSome, IfNone};
 ghost use Rattle.std.specs.Char.{digit_value};
 ghost use Rattle.c_lexer.specs.Classes.{is_in};
 ghost use Rattle.c_lexer.specs.Lookup.{lookup};
 ghost use Rattle.c_lexer.specs.Numbers as numbers;
 ghost use Rattle.c_lexer.specs.ReadNumber as spec;
+ghost use Rattle.c_lexer.specs.declared.number.Number.{Number};
 
 use crate::bytes::{Class, run_len};
 
@@ -162,4 +162,23 @@ fn with_suffix(base: Base, value: u64, suffix: &[u8]) -> Option<Number>
             longs,
         }),
     }
+}
+
+#[tactic(auto, unfolding(crate::specs::ReadNumber::number_of))]
+fn read_number(text: &[u8]) -> Option<Number>
+    ensures { result ≡ spec.number_of text.now }
+{
+    match text {
+        [b'0', b'x' | b'X', after @ ..] => constant(Base::Hexadecimal, after),
+        [b'0', ..] => constant(Base::Octal, text),
+        _ => constant(Base::Decimal, text),
+    }
+}
+
+/// The number that the whole text spells, if it spells one (6.4.4.1).
+pub(crate) fn number_of(text: &[u8]) -> Option<Number>
+    ensures found { IfSome result (λ number. numbers.IsNumber text.now number) }
+    ensures none { IfNone result ((number : Number) → numbers.IsNumber text.now number → ⊥) }
+{
+    read_number(text)
 }

@@ -1,8 +1,9 @@
-ghost use Rattle.std.specs.Prelude.{◌≡◌, map};
+ghost use Rattle.std.specs.Prelude.{◌≡◌, IfSome, IfNone, map};
 ghost use Rattle.std.specs.List.{list_any};
 ghost use Rattle.std.specs.Str.{bytes_eq};
 ghost use Rattle.c_lexer.specs.Lookup.{lookup};
 ghost use Rattle.c_lexer.specs.Words as spec;
+ghost use Rattle.c_lexer.specs.declared.word.Word.{Word};
 
 /// The words of the language (6.4.1) that are taken.
 #[derive(Clone, Copy, Debug, PartialEq, Eq)]
@@ -141,10 +142,10 @@ fn lookup(mut table: &[(&[u8], Word)], text: &[u8]) -> Option<Word>
     None
 }
 
-#[tactic(auto, unfolding(crate::specs::Words::word_of))]
 /// The word of the language that is spelled so (6.4.1).
 pub(crate) fn word_of(text: &[u8]) -> Option<Word>
-    ensures { result ≡ spec.word_of text.now }
+    ensures found { IfSome result (λ word. text.now ≡ spec.word_text word) }
+    ensures none { IfNone result ((word : Word) → text.now ≡ spec.word_text word → ⊥) }
 {
     lookup(&WORDS, text)
 }
