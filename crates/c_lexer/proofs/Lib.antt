@@ -4,3 +4,5 @@ pub mod WordLaws
 pub mod Cases
 pub mod Runs
 pub mod NumberLaws
+pub mod ItemLaws
+pub mod UnitLaws

@@ -20,7 +20,7 @@ use Rattle.c_lexer.proofs.Values.{small_enough}
 use Rattle.c_lexer.proofs.Cases.{chosen, either, neq-eqb, none_found}
 use Rattle.c_lexer.proofs.Runs.{run_all, run_whole}
 
-value_sound : (base value : ℕ) (digits : List ℕ) → value_of base digits ≡ Some value → (digits_value base digits < 2 ^ 64) × (value ≡ digits_value base digits)
+pub value_sound : (base value : ℕ) (digits : List ℕ) → value_of base digits ≡ Some value → (digits_value base digits < 2 ^ 64) × (value ≡ digits_value base digits)
 value_sound base value digits h =
     elim (chosen (nat_lt (digits_value base digits) (2 ^ 64)) (Some (digits_value base digits)) None (Some value) h)
     [ inl a ↦ (ltb-true _ _ a.0, (let e = a.1 in cc)) | inr a ↦ absurd (none_found a.1) ]

@@ -1,5 +1,5 @@
 -- What character constants and string literals are made of (6.4.4.4, 6.4.5).
-use Rattle.std.specs.Prelude.{◌≡◌, ◌≢◌, ℕ, ℤ, pos, ◌-ℤ◌, ◌^◌, ◌<◌, ◌≤◌, ◌==◌, Bool, true, false, List, [], ◌∷◌, ◌++◌, length, map, codes, Option, Some, None, if◌then◌else◌, nat_lt}
+use Rattle.std.specs.Prelude.{◌≡◌, ◌≢◌, ℕ, ℤ, pos, ◌-ℤ◌, ◌^◌, ◌<◌, ◌≤◌, ◌==◌, ◌%◌, Bool, true, false, List, [], ◌∷◌, ◌++◌, length, map, codes, Option, Some, None, if◌then◌else◌, nat_lt}
 use Rattle.std.specs.List.{list_all, flat_map, prefix_len}
 use Rattle.std.specs.Str.Parse.{digits_value}
 use Rattle.std.specs.Char.{is_ascii_hexdigit}
@@ -55,8 +55,8 @@ AreItems wide quote (item ∷ items) [] after = ⊥
 
 -- a value as the type of the unit has it: modulo 2 ^ 8 as a char, modulo 2 ^ 32 as an int
 abbrev pub unit_of : Bool → ℕ → ℤ
-unit_of false value = if nat_lt value 128 then pos value else pos value -ℤ pos 256
-unit_of true value = if nat_lt value 2147483648 then pos value else pos value -ℤ pos 4294967296
+unit_of false value = if nat_lt (value % 256) 128 then pos (value % 256) else pos (value % 256) -ℤ pos 256
+unit_of true value = if nat_lt (value % 4294967296) 2147483648 then pos (value % 4294967296) else pos (value % 4294967296) -ℤ pos 4294967296
 
 -- what stands before the quote: nothing, or L
 abbrev pub opening : Bool → List ℕ

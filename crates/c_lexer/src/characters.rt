@@ -1,4 +1,4 @@
-ghost use Rattle.std.specs.Prelude.{◌≡◌, ℕ, ℤ, ◌≤◌, ◌-◌, min, map, Bool, IfSome, IfNone, length, List};
+ghost use Rattle.std.specs.Prelude.{◌≡◌, ℕ, ℤ, ◌≤◌, ◌<◌, min, map, Bool, IfSome, IfNone, IfOk, length, List};
 ghost use Rattle.std.specs.List.{prefix_len};
 ghost use Rattle.std.specs.Option.{option_map};
 ghost use Rattle.c_lexer.specs.Bytes.{is_octal};
@@ -7,6 +7,7 @@ ghost use Rattle.c_lexer.specs.ReadCharacters as spec;
 
 use crate::bytes::{Class, is_in, run_len};
 use crate::number::value_of;
+use std::alloc::{AllocError, Global};
 
 /// What stands behind the backslash of an escape of one letter, and the value (6.4.4.4).
 const ESCAPES: [(u8, u64); 11] = [
@@ -53,7 +54,8 @@ fn greatest(wide: bool) -> u64
 fn numbered(wide: bool, radix: u64, count: usize, bytes: &[u8]) -> Option<(u64, &[u8])>
     requires radix { 1 ≤ radix }
     requires within { count ≤ length bytes.now }
-    ensures { option_map (λ found. (found.0, found.1.now)) result ≡ spec.numbered wide radix count bytes.now }
+    ensures value { option_map (λ found. (found.0, found.1.now)) result ≡ spec.numbered wide radix count bytes.now }
+    ensures shorter { IfSome result (λ found. length found.1.now < length bytes.now) }
 {
     if count == 0 {
         return None;
@@ -74,7 +76,8 @@ fn numbered(wide: bool, radix: u64, count: usize, bytes: &[u8]) -> Option<(u64, 
 /// The value of the escape whose backslash stands before these bytes, and what follows it.
 #[tactic(auto, unfolding(crate::specs::ReadCharacters::escape_at))]
 fn escape_at(wide: bool, bytes: &[u8]) -> Option<(u64, &[u8])>
-    ensures { option_map (λ found. (found.0, found.1.now)) result ≡ spec.escape_at wide bytes.now }
+    ensures value { option_map (λ found. (found.0, found.1.now)) result ≡ spec.escape_at wide bytes.now }
+    ensures shorter { IfSome result (λ found. length found.1.now < length bytes.now) }
 {
     match bytes {
         [] => None,
@@ -96,7 +99,8 @@ fn escape_at(wide: bool, bytes: &[u8]) -> Option<(u64, &[u8])>
 /// The value of the character or escape at the front, and what follows it.
 #[tactic(auto, unfolding(crate::specs::ReadCharacters::item_at))]
 fn item_at(wide: bool, quote: u8, bytes: &[u8]) -> Option<(u64, &[u8])>
-    ensures { option_map (λ found. (found.0, found.1.now)) result ≡ spec.item_at wide quote bytes.now }
+    ensures value { option_map (λ found. (found.0, found.1.now)) result ≡ spec.item_at wide quote bytes.now }
+    ensures shorter { IfSome result (λ found. length found.1.now < length bytes.now) }
 {
     match bytes {
         [] => None,
@@ -116,4 +120,58 @@ fn is_plain(wide: bool, quote: u8, byte: u8) -> bool
     ensures { result ≡ spec.is_plain wide quote byte }
 {
     !(byte == quote || byte == b'\n' || (wide && 128 <= byte))
+}
+
+/// The value as the type of the unit has it: modulo 2^8 as a char, modulo 2^32 as an int.
+fn unit_of(wide: bool, value: u64) -> i32
+    ensures { result ≡ characters.unit_of wide value }
+{
+    if wide {
+        let low = value % 4294967296;
+        if low < 2147483648 { low as i32 } else { (low as i64 - 4294967296) as i32 }
+    } else {
+        let low = value % 256;
+        if low < 128 { low as i32 } else { low as i32 - 256 }
+    }
+}
+
+/// The value behind the opening quote, where the closing one follows it and nothing else.
+fn closed(wide: bool, bytes: &[u8]) -> Option<(i32, bool)>
+    ensures { result ≡ spec.closed wide (spec.item_at wide 39 bytes.now) }
+{
+    match item_at(wide, b'\'', bytes) {
+        None => None,
+        Some((value, after)) => {
+            if after == b"'".as_slice() {
+                Some((unit_of(wide, value), wide))
+            } else {
+                None
+            }
+        }
+    }
+}
+
+#[tactic(auto, unfolding(crate::specs::ReadCharacters::character_of))]
+fn read_character(text: &[u8]) -> Option<(i32, bool)>
+    ensures { result ≡ spec.character_of text.now }
+{
+    match text {
+        [b'\'', after @ ..] => closed(false, after),
+        [b'L', b'\'', after @ ..] => closed(true, after),
+        _ => None,
+    }
+}
+
+/// The units behind the opening quote, as far as characters and escapes go, and what follows them.
+#[tactic(auto, unfolding(crate::specs::ReadCharacters::units_at))]
+fn units_at(alloc: Global, wide: bool, bytes: &[u8]) -> Result<(Vec<i64>, &[u8]), AllocError>
+    ensures { IfOk result (λ found. (found.0.items, found.1.now) ≡ spec.units_at wide bytes.now) }
+{
+    let mut units = Vec::new(alloc);
+    let mut rest = bytes;
+    while let Some((value, after)) = item_at(wide, b'"', rest) {
+        units.push(i64::from(unit_of(wide, value)))?;
+        rest = after;
+    }
+    Ok((units, rest))
 }
