@@ -6,3 +6,6 @@ pub mod Runs
 pub mod NumberLaws
 pub mod ItemLaws
 pub mod UnitLaws
+pub mod CharacterLaws
+pub mod MarkLaws
+pub mod CommentLaws

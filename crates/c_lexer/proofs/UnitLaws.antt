@@ -92,3 +92,12 @@ units_full wide (item ∷ items) (value ∷ values) after fit none =
     ap (units_at wide) regrouped
     ∙ (units_step wide (item_text item ++ (flat_map item_text items ++ after)) (value, flat_map item_text items ++ after) first
     ∙ ap (λ (r : List ℤ × List ℕ). (unit_of wide value ∷ r.0, r.1)) (units_full wide items values after fit.2 none))
+
+-- one unit more
+pub units_turn : (wide : Bool) (front now : List ℤ) (bytes : List ℕ) (found : ℕ × List ℕ) (whole : List ℤ × List ℕ) → item_at wide 34 bytes ≡ Some found → now ≡ front ++ (unit_of wide found.0 ∷ [])
+    → (front ++ (units_at wide bytes).0, (units_at wide bytes).1) ≡ whole → (now ++ (units_at wide found.1).0, (units_at wide found.1).1) ≡ whole
+units_turn wide front now bytes found whole at is kept =
+    let more : List ℤ × List ℕ = units_at wide found.1 in
+    ap (λ (t : List ℤ). (t ++ more.0, more.1)) is
+    ∙ (ap (λ (t : List ℤ). (t, more.1)) (append_assoc front (unit_of wide found.0 ∷ []) more.0)
+    ∙ (ap (λ (r : List ℤ × List ℕ). (front ++ r.0, r.1)) (sym (units_step wide bytes found at)) ∙ kept))

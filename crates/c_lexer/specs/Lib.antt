@@ -3,6 +3,13 @@ pub mod Classes
 pub mod Lookup
 pub mod Words
 pub mod Marks
+pub mod ReadMark
+pub mod Comments
+pub mod ReadComment
+pub mod Directives
+pub mod Parts
+pub mod Rows
+pub mod Lexing
 pub mod Stream
 pub mod Numbers
 pub mod ReadNumber

@@ -1,5 +1,5 @@
 -- The spellings of the punctuators (6.4.6).
-use Rattle.std.specs.Prelude.{ℕ, List, [], ◌∷◌, codes}
+use Rattle.std.specs.Prelude.{◌≡◌, ℕ, ◌≤◌, List, [], ◌∷◌, ◌++◌, codes, length, drop}
 use Rattle.c_lexer.specs.declared.punct.Punct.{Punct}
 use Rattle.c_lexer.specs.declared.punct.Punct.TheVariants as p
 
@@ -101,3 +101,9 @@ marks =
     ∷ (codes ";", p.Semicolon)
     ∷ (codes "=", p.Assign)
     ∷ (codes ",", p.Comma) ∷ []
+
+-- the mark stands at the front, so many bytes long, and no longer one does (6.4p4)
+pub record IsLongestMark (bytes : List ℕ) (mark : Punct) (count : ℕ) : Type 0 where
+  pub front : bytes ≡ mark_text mark ++ drop count bytes
+  pub count_is : count ≡ length (mark_text mark)
+  pub longest : (other : Punct) (after : List ℕ) → bytes ≡ mark_text other ++ after → length (mark_text other) ≤ count

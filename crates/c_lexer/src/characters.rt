@@ -175,3 +175,45 @@ fn units_at(alloc: Global, wide: bool, bytes: &[u8]) -> Result<(Vec<i64>, &[u8])
     }
     Ok((units, rest))
 }
+
+/// The units between the opening quote and the closing one, where nothing else follows that.
+fn ended(alloc: Global, wide: bool, bytes: &[u8]) -> Result<Option<(Vec<i64>, bool)>, AllocError>
+    ensures { IfOk result (λ found. option_map (λ x. (x.0.items, x.1)) found ≡ spec.ended wide (spec.units_at wide bytes.now)) }
+{
+    let (units, after) = units_at(alloc, wide, bytes)?;
+    if after == b"\"".as_slice() {
+        Ok(Some((units, wide)))
+    } else {
+        Ok(None)
+    }
+}
+
+#[tactic(auto, unfolding(crate::specs::ReadCharacters::literal_of))]
+fn read_literal(alloc: Global, text: &[u8]) -> Result<Option<(Vec<i64>, bool)>, AllocError>
+    ensures { IfOk result (λ found. option_map (λ x. (x.0.items, x.1)) found ≡ spec.literal_of text.now) }
+{
+    match text {
+        [b'"', after @ ..] => ended(alloc, false, after),
+        [b'L', b'"', after @ ..] => ended(alloc, true, after),
+        _ => Ok(None),
+    }
+}
+
+/// The value of the character constant that the whole text spells, and whether it is wide, if it spells one (6.4.4.4).
+pub(crate) fn character_of(text: &[u8]) -> Option<(i32, bool)>
+    ensures found { IfSome result (λ found. characters.IsCharacter text.now found.0 found.1) }
+    ensures none { IfNone result ((value : ℤ) (wide : Bool) → characters.IsCharacter text.now value wide → ⊥) }
+{
+    read_character(text)
+}
+
+/// The units of the string literal that the whole text spells, and whether it is wide, if it spells one (6.4.5).
+pub(crate) fn literal_of(
+    alloc: Global,
+    text: &[u8],
+) -> Result<Option<(Vec<i64>, bool)>, AllocError>
+    ensures found { IfOk result (λ r. IfSome r (λ found. characters.IsLiteral text.now found.0.items found.1)) }
+    ensures none { IfOk result (λ r. IfNone r ((units : List ℤ) (wide : Bool) → characters.IsLiteral text.now units wide → ⊥)) }
+{
+    read_literal(alloc, text)
+}

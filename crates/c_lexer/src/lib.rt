@@ -4,6 +4,7 @@
 
 mod bytes;
 mod characters;
+mod comment;
 mod fault;
 mod number;
 mod punct;
@@ -19,3 +20,6 @@ pub use token::{Body, Token};
 pub use tokens::Tokens;
 pub use units::Units;
 pub use word::Word;
+
+#[cfg(test)]
+mod tests;

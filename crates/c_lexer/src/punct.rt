@@ -1,3 +1,8 @@
+ghost use Rattle.std.specs.Prelude.{◌≡◌, ℕ, List, ◌++◌, map, length, IfSome, IfNone};
+ghost use Rattle.c_lexer.specs.Marks.{mark_text, IsLongestMark};
+ghost use Rattle.c_lexer.specs.ReadMark as spec;
+ghost use Rattle.c_lexer.specs.declared.punct.Punct.{Punct};
+
 /// The punctuators (6.4.6) that are taken.
 #[derive(Clone, Copy, Debug, PartialEq, Eq)]
 pub enum Punct {
@@ -96,7 +101,7 @@ pub enum Punct {
 }
 
 /// Each punctuator and its spelling, longer ones first.
-pub(crate) const MARKS: [(&[u8], Punct); 46] = [
+const MARKS: [(&[u8], Punct); 46] = [
     (b"...", Punct::Ellipsis),
     (b"<<=", Punct::ShiftLeftAssign),
     (b">>=", Punct::ShiftRightAssign),
@@ -144,3 +149,30 @@ pub(crate) const MARKS: [(&[u8], Punct); 46] = [
     (b"=", Punct::Assign),
     (b",", Punct::Comma),
 ];
+
+fn find(mut rows: &[(&[u8], Punct)], bytes: &[u8]) -> Option<(Punct, usize)>
+    ensures { result ≡ spec.measured (spec.first_of (map (λ row. (row.0.now, row.1)) rows.entry.now) bytes.now) }
+{
+    while let [row, rest @ ..] = rows {
+        if bytes.starts_with(row.0) {
+            return Some((row.1, row.0.len()));
+        }
+        rows = rest;
+    }
+    None
+}
+
+#[tactic(auto, unfolding(crate::specs::ReadMark::mark_at))]
+fn read_mark(bytes: &[u8]) -> Option<(Punct, usize)>
+    ensures { result ≡ spec.mark_at bytes.now }
+{
+    find(&MARKS, bytes)
+}
+
+/// The longest punctuator at the front, and its length, if one stands there (6.4p4, 6.4.6).
+pub(crate) fn mark_at(bytes: &[u8]) -> Option<(Punct, usize)>
+    ensures found { IfSome result (λ found. IsLongestMark bytes.now found.0 found.1) }
+    ensures none { IfNone result ((mark : Punct) (after : List ℕ) → bytes.now ≡ mark_text mark ++ after → ⊥) }
+{
+    read_mark(bytes)
+}
