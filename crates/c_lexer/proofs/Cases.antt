@@ -1,7 +1,7 @@
 -- Which way a test went.
 use Rattle.std.proofs.Common.{◌≡◌, ◌⊎◌, inl, inr, ℕ, Bool, true, false, ◌==◌, ◌||◌, cond, refl, sym, ◌∙◌}
 use Rattle.std.proofs.lemmas.Bool.{eqb-true, false≢true}
-use Rattle.std.specs.Prelude.{Option, Some, None}
+use Rattle.std.specs.Prelude.{Option, Some, None, not}
 
 pub chosen : {A : Type 0} (b : Bool) (x y z : A) → cond b x y ≡ z → ((b ≡ true) × (x ≡ z)) ⊎ ((b ≡ false) × (y ≡ z))
 chosen true x y z h = inl (refl, h)
@@ -20,3 +20,7 @@ neq-eqb a b h = not_true (a == b) (λ e. h (eqb-true a b e))
 
 pub none_found : {A : Type 0} {a : A} → None ≡ Some a → ⊥
 none_found h = cc
+
+pub not_false : (b : Bool) → not b ≡ true → b ≡ false
+not_false true h = absurd (false≢true h)
+not_false false h = refl

@@ -13,7 +13,7 @@ use Rattle.c_lexer.specs.Bytes.{is_octal}
 use Rattle.c_lexer.specs.Characters.{Item, Plain, Letter, Octal, Hexadecimal, item_text, escapes, value_at, greatest, IsItem, Ends}
 use Rattle.c_lexer.specs.ReadNumber.{value_of}
 use Rattle.c_lexer.specs.ReadCharacters.{within, numbered, escape_at, is_plain, item_at}
-use Rattle.c_lexer.proofs.Cases.{chosen, either, neq-eqb, none_found}
+use Rattle.c_lexer.proofs.Cases.{chosen, either, neq-eqb, none_found, not_false}
 use Rattle.c_lexer.proofs.Values.{small_enough}
 use Rattle.c_lexer.proofs.NumberLaws.{value_sound}
 use Rattle.c_lexer.proofs.Runs.{run_part, run_ends, run_whole, run_least}
@@ -104,10 +104,6 @@ escape_sound wide quote (byte ∷ bytes) found h =
     | inr a ↦ elim (chosen (byte == 120) (numbered wide 16 (prefix_len is_ascii_hexdigit bytes) bytes) (option_map {U = ℕ × List ℕ} (λ x. (x, bytes)) (value_at escapes byte)) (Some found) a.1)
       [ inl b ↦ subst (λ x. HasItem wide quote (92 ∷ x ∷ bytes) found) (sym (eqb-true byte 120 b.0)) (hex_sound wide quote bytes found b.1)
       | inr b ↦ letter_sound wide quote byte bytes (value_at escapes byte) found refl b.1 ] ]
-
-not_false : (b : Bool) → not b ≡ true → b ≡ false
-not_false true h = absurd (false≢true h)
-not_false false h = refl
 
 wide_small : (wide : Bool) (byte : ℕ) → (wide && nat_le 128 byte) ≡ false → wide ≡ true → byte < 128
 wide_small true byte h is = (let no = leb-false 128 byte h in omega (arith, no))

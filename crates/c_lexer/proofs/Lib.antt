@@ -9,3 +9,4 @@ pub mod UnitLaws
 pub mod CharacterLaws
 pub mod MarkLaws
 pub mod CommentLaws
+pub mod DirectiveLaws

@@ -1,8 +1,9 @@
 -- The run of bytes of one class at the front.
-use Rattle.std.proofs.Common.{◌≡◌, ℕ, zero, suc, ◌+◌, ◌≤◌, List, [], ◌∷◌, ◌++◌, Bool, true, false, ◌&&◌, cond, length, take, drop, refl, sym, ◌∙◌, ap, subst, arith}
+use Rattle.std.proofs.Common.{◌≡◌, ℕ, zero, suc, ◌+◌, ◌≤◌, List, [], ◌∷◌, ◌++◌, Bool, true, false, ◌==◌, ◌&&◌, cond, length, take, drop, refl, sym, ◌∙◌, ap, subst, arith}
 use Rattle.std.proofs.Math.Numerals.{one-add}
-use Rattle.std.proofs.lemmas.Bool.{and_parts, and_from}
+use Rattle.std.proofs.lemmas.Bool.{and_parts, and_from, eqb-true, eqb-false, eq-eqb}
 use Rattle.std.specs.List.{prefix_len, list_all}
+use Rattle.c_lexer.proofs.Cases.{neq-eqb}
 
 run_step : (p : ℕ → Bool) (x : ℕ) (xs : List ℕ) (b : Bool) → p x ≡ b → list_all p (take (prefix_len p xs) xs) ≡ true → list_all p (take (cond b (1 + prefix_len p xs) 0) (x ∷ xs)) ≡ true
 run_step p x xs true is more = rw one-add (and_from _ _ is more)
@@ -46,3 +47,16 @@ run_least p (d ∷ ds) rest all =
     let parts = and_parts (p d) (list_all p ds) all in
     let more = run_least p ds rest parts.1 in
     rw parts.0 (omega arith)
+
+eq_suc : (a b : ℕ) (t : Bool) → (a == b) ≡ t → (suc a == suc b) ≡ t
+eq_suc a b true h = eq-eqb (suc a) (suc b) (ap suc (eqb-true a b h))
+eq_suc a b false h = neq-eqb (suc a) (suc b) (λ (e : suc a ≡ suc b). eqb-false a b h (omega arith))
+
+all_step : (p : ℕ → Bool) (x : ℕ) (xs : List ℕ) (b : Bool) → p x ≡ b → (prefix_len p xs == length xs) ≡ list_all p xs → (cond b (1 + prefix_len p xs) 0 == length (x ∷ xs)) ≡ (b && list_all p xs)
+all_step p x xs true is more = rw one-add (eq_suc (prefix_len p xs) (length xs) (list_all p xs) more)
+all_step p x xs false is more = neq-eqb 0 (suc (length xs)) (λ (e : 0 ≡ suc (length xs)). omega arith)
+
+-- all are of the class where the run is whole
+pub run_is_all : (p : ℕ → Bool) (xs : List ℕ) → (prefix_len p xs == length xs) ≡ list_all p xs
+run_is_all p [] = refl
+run_is_all p (x ∷ xs) = all_step p x xs (p x) refl (run_is_all p xs)

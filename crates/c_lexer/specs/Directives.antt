@@ -1,6 +1,7 @@
 -- The directive lines that are taken, from their `#` on (6.10). None has an effect.
-use Rattle.std.specs.Prelude.{◌≡◌, ◌≢◌, ◌⊎◌, ℕ, ◌<◌, ◌||◌, true, false, List, [], ◌∷◌, ◌++◌, codes, length, slice_index, Contains}
-use Rattle.std.specs.List.{list_all, prefix_len, flat_map}
+use Rattle.std.specs.Prelude.{◌≡◌, ◌≢◌, ◌⊎◌, ℕ, ◌<◌, ◌||◌, Bool, true, false, List, [], ◌∷◌, ◌++◌, codes, length, slice_index}
+use Rattle.std.specs.List.{list_all, list_any, prefix_len, flat_map}
+use Rattle.std.specs.Str.{bytes_eq}
 use Rattle.std.specs.Char.{is_ascii_digit}
 use Rattle.c_lexer.specs.declared.bytes.Class.TheVariants.{Line}
 use Rattle.c_lexer.specs.Bytes.{is_blank, is_word_byte}
@@ -16,13 +17,17 @@ headers =
     codes "<stddef.h>" ∷ codes "<stdint.h>" ∷ codes "<stdbool.h>" ∷ codes "<limits.h>" ∷ codes "<stdlib.h>" ∷ codes "<string.h>"
     ∷ codes "<wchar.h>" ∷ codes "<stdio.h>" ∷ codes "<errno.h>" ∷ []
 
+-- one of them
+unfoldable pub is_header : List ℕ → Bool
+is_header text = list_any (λ header. bytes_eq header text) headers
+
 -- `include <stddef.h>` and its like
 pub record IsInclude (text : List ℕ) : Type 0 where
   pub before : List ℕ
   pub header : List ℕ
   pub last : List ℕ
   pub parts : text ≡ codes "include" ++ (before ++ (header ++ last))
-  pub known : Contains headers header
+  pub known : is_header header ≡ true
   pub blanks : IsBlank before × IsBlank last
 
 -- `define __STDC_WANT_LIB_EXT1__ 1`

@@ -7,6 +7,7 @@ pub mod ReadMark
 pub mod Comments
 pub mod ReadComment
 pub mod Directives
+pub mod ReadDirective
 pub mod Parts
 pub mod Rows
 pub mod Lexing

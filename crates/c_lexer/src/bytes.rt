@@ -1,5 +1,5 @@
-ghost use Rattle.std.specs.Prelude.{◌≡◌, ◌+◌, ◌≤◌, length};
-ghost use Rattle.std.specs.List.{prefix_len};
+ghost use Rattle.std.specs.Prelude.{◌≡◌, ◌+◌, ◌≤◌, length, drop};
+ghost use Rattle.std.specs.List.{prefix_len, list_all};
 ghost use Rattle.c_lexer.specs.Bytes as spec;
 ghost use Rattle.c_lexer.specs.Classes.{is_in};
 
@@ -13,6 +13,10 @@ pub(crate) enum Class {
     Hexadecimal,
     /// Spaces and tabs.
     Blank,
+    /// All but spaces and tabs.
+    Solid,
+    /// Spaces, tabs and decimal digits.
+    Spaced,
     /// All but a line feed.
     Line,
 }
@@ -40,6 +44,8 @@ pub(crate) fn is_in(class: Class, byte: u8) -> bool
         Class::Octal => b'0' <= byte && byte <= b'7',
         Class::Hexadecimal => byte.is_ascii_hexdigit(),
         Class::Blank => byte == b' ' || byte == b'\t',
+        Class::Solid => byte != b' ' && byte != b'\t',
+        Class::Spaced => byte == b' ' || byte == b'\t' || byte.is_ascii_digit(),
         Class::Line => byte != b'\n',
     }
 }
@@ -54,4 +60,19 @@ pub(crate) fn run_len(class: Class, bytes: &[u8]) -> usize
         count += 1;
     }
     count
+}
+
+/// Whether all bytes are of the class.
+#[tactic(auto, using(crate::proofs::Runs::run_is_all))]
+pub(crate) fn all_in(class: Class, bytes: &[u8]) -> bool
+    ensures { result ≡ list_all (is_in class) bytes.now }
+{
+    run_len(class, bytes) == bytes.len()
+}
+
+/// What follows the bytes of the class at the front.
+pub(crate) fn past(class: Class, bytes: &[u8]) -> &[u8]
+    ensures { result.now ≡ drop (prefix_len (is_in class) bytes.now) bytes.now }
+{
+    &bytes[run_len(class, bytes)..]
 }

@@ -27,7 +27,8 @@ pub(crate) fn past_close(bytes: &[u8]) -> Option<&[u8]>
     find_close(bytes)
 }
 
-fn find_quote(quote: u8, bytes: &[u8]) -> Option<&[u8]>
+/// What follows the first quote that no backslash hides, on this line.
+pub(crate) fn find_quote(quote: u8, bytes: &[u8]) -> Option<&[u8]>
     ensures { option_copied result ≡ spec.past_quote quote false bytes.now }
 {
     let mut hidden = false;

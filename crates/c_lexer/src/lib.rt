@@ -5,6 +5,7 @@
 mod bytes;
 mod characters;
 mod comment;
+mod directive;
 mod fault;
 mod number;
 mod punct;
