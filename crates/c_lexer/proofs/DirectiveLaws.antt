@@ -19,7 +19,7 @@ use Rattle.c_lexer.proofs.Cases.{chosen, either, neq-eqb, none_found, not_false}
 use Rattle.c_lexer.proofs.Runs.{run_all, run_whole}
 use Rattle.c_lexer.proofs.CommentLaws.{quote_sound, quote_full}
 
-strip_sound : (word text after : List ℕ) → stripped word text ≡ Some after → text ≡ word ++ after
+pub strip_sound : (word text after : List ℕ) → stripped word text ≡ Some after → text ≡ word ++ after
 strip_sound word text after h =
     elim (chosen (pointwise nat_eq (take (length word) text) word) (Some (drop (length word) text)) None (Some after) h)
     [ inl a ↦
@@ -28,7 +28,7 @@ strip_sound word text after h =
       sym (take-append-drop (length word) text) ∙ (ap (λ t. t ++ drop (length word) text) front ∙ ap (λ t. word ++ t) rest)
     | inr a ↦ absurd (none_found a.1) ]
 
-strip_full : (word after : List ℕ) → stripped word (word ++ after) ≡ Some after
+pub strip_full : (word after : List ℕ) → stripped word (word ++ after) ≡ Some after
 strip_full word after =
     let same : pointwise nat_eq word word ≡ true = (bytes_eq-Decides word word).1 refl in
     let front : take (length word) (word ++ after) ≡ word = take-append_seam word after in
@@ -36,12 +36,12 @@ strip_full word after =
     ap (λ t. cond (pointwise nat_eq t word) (Some (drop (length word) (word ++ after))) None) front
     ∙ (ap (λ b. cond b (Some (drop (length word) (word ++ after))) None) same ∙ ap Some back)
 
-record Holds (o : Option (List ℕ)) (test : List ℕ → Bool) : Type 0 where
-  text : List ℕ
-  is : o ≡ Some text
-  holds : test text ≡ true
+pub record Holds (o : Option (List ℕ)) (test : List ℕ → Bool) : Type 0 where
+  pub text : List ℕ
+  pub is : o ≡ Some text
+  pub holds : test text ≡ true
 
-on_true : (o : Option (List ℕ)) (test : List ℕ → Bool) → on o test ≡ true → Holds o test
+pub on_true : (o : Option (List ℕ)) (test : List ℕ → Bool) → on o test ≡ true → Holds o test
 on_true None test h = absurd (false≢true h)
 on_true (Some text) test h = record { text = text; is = refl; holds = h }
 

@@ -10,3 +10,4 @@ pub mod CharacterLaws
 pub mod MarkLaws
 pub mod CommentLaws
 pub mod DirectiveLaws
+pub mod PragmaLaws

@@ -6,8 +6,10 @@ ghost use Rattle.c_lexer.specs.Rows.{number_len, is_exponent};
 
 use crate::bytes::{Class, is_in};
 
-fn find_close(bytes: &[u8]) -> Option<&[u8]>
-    ensures { option_copied result ≡ spec.past_close bytes.now }
+/// What follows the first `*/`.
+pub(crate) fn find_close(bytes: &[u8]) -> Option<&[u8]>
+    ensures value { option_copied result ≡ spec.past_close bytes.now }
+    ensures shorter { IfSome result (λ after. length after.now ≤ length bytes.now) }
 {
     let mut rest = bytes;
     while let [byte, after @ ..] = rest {
@@ -29,7 +31,8 @@ pub(crate) fn past_close(bytes: &[u8]) -> Option<&[u8]>
 
 /// What follows the first quote that no backslash hides, on this line.
 pub(crate) fn find_quote(quote: u8, bytes: &[u8]) -> Option<&[u8]>
-    ensures { option_copied result ≡ spec.past_quote quote false bytes.now }
+    ensures value { option_copied result ≡ spec.past_quote quote false bytes.now }
+    ensures shorter { IfSome result (λ after. length after.now ≤ length bytes.now) }
 {
     let mut hidden = false;
     let mut rest = bytes;
