@@ -45,14 +45,14 @@ pub on_true : (o : Option (List ℕ)) (test : List ℕ → Bool) → on o test �
 on_true None test h = absurd (false≢true h)
 on_true (Some text) test h = record { text = text; is = refl; holds = h }
 
-blanks_of : List ℕ → List ℕ
+pub blanks_of : List ℕ → List ℕ
 blanks_of text = take (prefix_len (is_in class.Blank) text) text
 
-unblank_parts : (text : List ℕ) → text ≡ blanks_of text ++ unblank text
+pub unblank_parts : (text : List ℕ) → text ≡ blanks_of text ++ unblank text
 unfolding blanks_of
 unblank_parts text = sym (take-append-drop (prefix_len (is_in class.Blank) text) text)
 
-blanks_blank : (text : List ℕ) → list_all is_blank (blanks_of text) ≡ true
+pub blanks_blank : (text : List ℕ) → list_all is_blank (blanks_of text) ≡ true
 unfolding blanks_of
 blanks_blank text = run_all (is_in class.Blank) text
 
@@ -66,7 +66,7 @@ blanks_some text h = omega (arith, not_zero (prefix_len (is_in class.Blank) text
 blank_run : (blanks rest : List ℕ) → list_all is_blank blanks ≡ true → prefix_len (is_in class.Blank) rest ≡ 0 → prefix_len (is_in class.Blank) (blanks ++ rest) ≡ length blanks
 blank_run blanks rest all ends = run_whole (is_in class.Blank) blanks rest all ends
 
-unblank_full : (blanks rest : List ℕ) → list_all is_blank blanks ≡ true → prefix_len (is_in class.Blank) rest ≡ 0 → unblank (blanks ++ rest) ≡ rest
+pub unblank_full : (blanks rest : List ℕ) → list_all is_blank blanks ≡ true → prefix_len (is_in class.Blank) rest ≡ 0 → unblank (blanks ++ rest) ≡ rest
 unblank_full blanks rest all ends = ap (λ n. drop n (blanks ++ rest)) (blank_run blanks rest all ends) ∙ drop-append_seam blanks rest
 
 some_true : (n m : ℕ) → n ≡ m → 0 < m → not (n == 0) ≡ true

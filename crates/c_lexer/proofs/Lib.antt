@@ -11,3 +11,4 @@ pub mod MarkLaws
 pub mod CommentLaws
 pub mod DirectiveLaws
 pub mod PragmaLaws
+pub mod ShapeLaws

@@ -1,6 +1,7 @@
 -- Where a comment goes on behind a line, and pragmas.
-use Rattle.std.proofs.Common.{◌≡◌, ◌⊎◌, inl, inr, ℕ, zero, suc, ◌+◌, ◌<◌, ◌≤◌, List, [], ◌∷◌, ◌++◌, Bool, true, false, ◌==◌, ◌||◌, ◌&&◌, cond, length, drop, refl, sym, ◌∙◌, ap, subst, arith, append_assoc, length-append}
+use Rattle.std.proofs.Common.{◌≡◌, ◌⊎◌, inl, inr, ℕ, zero, suc, ◌+◌, ◌<◌, ◌≤◌, List, [], ◌∷◌, ◌++◌, Bool, true, false, ◌==◌, ◌||◌, ◌&&◌, cond, length, take, drop, get_or, ◌-◌, refl, sym, ◌∙◌, ap, subst, arith, append_assoc, length-append}
 use Rattle.std.proofs.lemmas.Bool.{and_parts, and_from, or_parts, eqb-true, eqb-false, eq-eqb, false≢true}
+use Rattle.std.proofs.Math.Seq.{take-length}
 use Rattle.std.specs.Prelude.{Option, Some, None, Result, Ok, Err, not, codes, slice_index, ◌≢◌}
 use Rattle.std.specs.List.{prefix_len, list_all, flat_map}
 use Rattle.c_lexer.specs.declared.bytes.Class.TheVariants as class
@@ -235,3 +236,22 @@ goes_turn byte after rest at fits = goes_same (length rest) (length after) rest 
 pub goes_stop : (byte : ℕ) (after : List ℕ) (open_end : Bool) → past_piece byte after ≡ Err open_end → open_end ≡ goes_on (byte ∷ after)
 unfolding goes_on
 goes_stop byte after open_end at = sym (ap (by_piece (goes_on_from (length after))) at)
+
+-- the same, by the first byte of a list and the others
+pub turn_at : (xs rest : List ℕ) → 1 ≤ length xs → past_piece (get_or xs 0 0) (drop 1 xs) ≡ Ok rest → length rest ≤ length (drop 1 xs) → goes_on rest ≡ goes_on xs
+turn_at [] rest some at fits = absurd (omega (arith, some))
+turn_at (x ∷ xs) rest some at fits = goes_turn x xs rest at fits
+
+pub stop_at : (xs : List ℕ) (open_end : Bool) → 1 ≤ length xs → past_piece (get_or xs 0 0) (drop 1 xs) ≡ Err open_end → open_end ≡ goes_on xs
+stop_at [] open_end some at = absurd (omega (arith, some))
+stop_at (x ∷ xs) open_end some at = goes_stop x xs open_end at
+
+pub nothing_open : (xs : List ℕ) → length xs < 1 → false ≡ goes_on xs
+unfolding goes_on
+nothing_open [] none = refl
+nothing_open (x ∷ xs) none = absurd (omega (arith, none))
+
+-- all but the first, as a pattern has it
+pub tail_is : (xs : List ℕ) → 1 ≤ length xs → take (length xs - 1) (drop 1 xs) ≡ drop 1 xs
+tail_is [] some = absurd (omega (arith, some))
+tail_is (x ∷ xs) some = ap (λ n. take n xs) (let e : suc (length xs) - 1 ≡ length xs = omega arith in e) ∙ take-length xs

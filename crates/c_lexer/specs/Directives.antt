@@ -80,10 +80,13 @@ pub record IsPragma (text : List ℕ) : Type 0 where
   pub line_only : list_all (is_in Line) rest ≡ true
   pub within : GoesOn rest → ⊥
 
+abbrev pub IsShape : List ℕ → Type 0
+IsShape text = IsInclude text ⊎ IsDefine text ⊎ IsMarker text ⊎ IsPragma text
+
 -- `#`, spaces and tabs, and one of the four shapes
 pub record IsDirective (line : List ℕ) : Type 0 where
   pub before : List ℕ
   pub text : List ℕ
   pub parts : line ≡ codes "#" ++ (before ++ text)
   pub blank : IsBlank before
-  pub shape : IsInclude text ⊎ IsDefine text ⊎ IsMarker text ⊎ IsPragma text
+  pub shape : IsShape text

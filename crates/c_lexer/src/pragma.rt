@@ -1,10 +1,10 @@
 ghost use Rattle.std.specs.Prelude.{◌≡◌, ◌↔◌, ◌≤◌, length, IsTrue, MatchResult, Ok, Err, IfOk};
-ghost use Rattle.c_lexer.specs.Directives.{IsPragma};
+ghost use Rattle.c_lexer.specs.Directives.{IsPragma, IsShape, IsDirective};
 ghost use Rattle.c_lexer.specs.ReadDirective as spec;
 
-use crate::bytes::{Class, all_in, run_len};
+use crate::bytes::{Class, all_in, past, run_len};
 use crate::comment::{find_close, find_quote};
-use crate::directive::strip;
+use crate::directive::{is_define, is_include, is_marker, strip};
 
 /// What follows the comment, the text between quotes or the byte at the front, or whether a comment goes on from here.
 #[tactic(auto, unfolding(crate::specs::ReadDirective::past_piece))]
@@ -66,4 +66,20 @@ pub(crate) fn is_pragma(text: &[u8]) -> bool
     ensures { IsTrue result ↔ IsPragma text.now }
 {
     read_pragma(text)
+}
+
+/// Whether the line, from its `#` on, is a directive that is taken (6.10).
+pub(crate) fn is_directive(line: &[u8]) -> bool
+    ensures { IsTrue result ↔ IsDirective line.now }
+{
+    match line {
+        [b'#', after @ ..] => has_shape(past(Class::Blank, after)),
+        _ => false,
+    }
+}
+
+fn has_shape(text: &[u8]) -> bool
+    ensures { IsTrue result ↔ IsShape text.now }
+{
+    is_include(text) || is_define(text) || is_marker(text) || is_pragma(text)
 }

@@ -1,6 +1,7 @@
 use crate::characters::{character_of, literal_of};
 use crate::comment::{number_len, past_close, past_quote};
 use crate::number::number_of;
+use crate::pragma::is_directive;
 use crate::punct::{Punct, mark_at};
 use crate::word::{Word, is_outside, word_of};
 use std::test::Fail;
@@ -86,4 +87,27 @@ fn ends(rt: HostRuntime) {
     assert_eq!(rt; past_quote(b'"', b"a\\\"b\" c").map(|after| after.len()), Some(2));
     assert_eq!(rt; past_quote(b'\'', b"a\n'").map(|after| after.len()), None);
     assert_eq!(rt; number_len(b"1e+5-2"), 4);
+}
+
+#[test]
+fn directives(rt: HostRuntime) {
+    let all: [(&[u8], bool); 14] = [
+        (b"#include <stdio.h>", true),
+        (b"#\tinclude<errno.h> ", true),
+        (b"#include <locale.h>", false),
+        (b"#define __STDC_WANT_LIB_EXT1__ 1", true),
+        (b"#define __STDC_WANT_LIB_EXT1__1", false),
+        (b"#define __STDC_WANT_LIB_EXT1__ 0", false),
+        (b"# 12 \"a\\\"b.c\" 1 3 4", true),
+        (b"# 12 \"a.c", false),
+        (b"#pragma STDC /* on */ // and /* so on", true),
+        (b"#pragma \"/*\"", true),
+        (b"#pragma /* on", false),
+        (b"#pragmatic", false),
+        (b"#if 1", false),
+        (b"#", false),
+    ];
+    for (line, taken) in all {
+        assert_eq!(rt; is_directive(line), taken);
+    }
 }
