@@ -1,8 +1,8 @@
 -- What is read as a character constant or a string literal is one, and each is read.
-use Rattle.std.proofs.Common.{◌≡◌, ◌⊎◌, inl, inr, ℕ, List, [], ◌∷◌, ◌++◌, Bool, true, false, ◌==◌, ◌&&◌, cond, drop, refl, sym, ◌∙◌, ap, subst, append_assoc}
-use Rattle.std.proofs.lemmas.Bool.{eqb-true, eq-eqb, and_parts, cond-true}
+use Rattle.std.proofs.Common.{◌≡◌, inl, inr, ℕ, List, [], ◌∷◌, ◌++◌, Bool, true, false, ◌==◌, ◌&&◌, cond, refl, sym, ◌∙◌, ap, subst}
+use Rattle.std.proofs.lemmas.Bool.{eqb-true, and_parts}
 use Rattle.std.proofs.lemmas.Slice.Eq.{bytes_eq-Decides}
-use Rattle.std.specs.Prelude.{ℤ, Option, Some, None, IfSome, IfNone, Result, Ok, Err, IfOk, slice_index, map, codes}
+use Rattle.std.specs.Prelude.{ℤ, Option, Some, None, IfSome, IfNone, Result, Ok, Err, IfOk}
 use Rattle.std.specs.List.{flat_map}
 use Rattle.std.specs.Option.{option_map}
 use Rattle.std.specs.Str.{bytes_eq}
@@ -10,7 +10,7 @@ use Rattle.c_lexer.specs.Characters.{Item, Plain, Letter, Octal, Hexadecimal, En
 use Rattle.c_lexer.specs.ReadCharacters.{item_at, closed, character_of, units_at, ended, literal_of}
 use Rattle.c_lexer.proofs.Cases.{chosen, none_found}
 use Rattle.c_lexer.proofs.ItemLaws.{item_sound, item_full}
-use Rattle.c_lexer.proofs.UnitLaws.{HasUnits, units_sound, units_full}
+use Rattle.c_lexer.proofs.UnitLaws.{units_sound, units_full}
 
 same_text : (a b : List ℕ) → bytes_eq a b ≡ true → a ≡ b
 same_text a b h = (bytes_eq-Decides a b).0 h
@@ -18,19 +18,20 @@ same_text a b h = (bytes_eq-Decides a b).0 h
 closed_sound : (wide : Bool) (bytes : List ℕ) (o : Option (ℕ × List ℕ)) (found : ℤ × Bool) → item_at wide 39 bytes ≡ o → closed wide o ≡ Some found → IsCharacter (opening wide ++ (39 ∷ bytes)) found.0 found.1
 closed_sound wide bytes None found at h = absurd (none_found h)
 closed_sound wide bytes (Some x) found at h =
-    elim (chosen (bytes_eq x.1 (39 ∷ [])) (Some (unit_of wide x.0, wide)) None (Some found) h)
-    [ inl a ↦
-      let i = item_sound wide 39 bytes x at in
-      let same : (unit_of wide x.0, wide) ≡ found = (let e = a.1 in cc) in
-      let P : ℤ × Bool → Type 0 = λ y. IsCharacter (opening wide ++ (39 ∷ bytes)) y.0 y.1 in
-      subst P same (record {
-        item = i.item;
-        code = x.0;
-        parts = ap (λ t. opening wide ++ (39 ∷ t)) (i.parts ∙ ap (λ t. item_text i.item ++ t) (same_text x.1 (39 ∷ []) a.0));
-        fits = i.fits;
-        same = refl;
-      })
-    | inr a ↦ absurd (none_found a.1) ]
+    elim (chosen (bytes_eq x.1 (39 ∷ [])) (Some (unit_of wide x.0, wide)) None (Some found) h) [
+      | inl a ↦
+          let i = item_sound wide 39 bytes x at in
+          let same : (unit_of wide x.0, wide) ≡ found = (let e = a.1 in cc) in
+          let P : ℤ × Bool → Type 0 = λ y. IsCharacter (opening wide ++ (39 ∷ bytes)) y.0 y.1 in
+          subst P same (record {
+            item = i.item;
+            code = x.0;
+            parts = ap (λ t. opening wide ++ (39 ∷ t)) (i.parts ∙ ap (λ t. item_text i.item ++ t) (same_text x.1 (39 ∷ []) a.0));
+            fits = i.fits;
+            same = refl;
+          })
+      | inr a ↦ absurd (none_found a.1)
+    ]
 
 quote_ends : (item : Item) → Ends item (39 ∷ [])
 quote_ends (Plain byte) = tt
@@ -44,20 +45,21 @@ closed_full wide text value c =
 
 ended_sound : (wide : Bool) (bytes : List ℕ) (found : List ℤ × Bool) → ended wide (units_at wide bytes) ≡ Some found → IsLiteral (opening wide ++ (34 ∷ bytes)) found.0 found.1
 ended_sound wide bytes found h =
-    elim (chosen (bytes_eq (units_at wide bytes).1 (34 ∷ [])) (Some ((units_at wide bytes).0, wide)) None (Some found) h)
-    [ inl a ↦
-      let u = units_sound wide bytes in
-      let same : ((units_at wide bytes).0, wide) ≡ found = (let e = a.1 in cc) in
-      let end : (units_at wide bytes).1 ≡ 34 ∷ [] = same_text (units_at wide bytes).1 (34 ∷ []) a.0 in
-      let P : List ℤ × Bool → Type 0 = λ y. IsLiteral (opening wide ++ (34 ∷ bytes)) y.0 y.1 in
-      subst P same (record {
-        items = u.items;
-        values = u.values;
-        parts = ap (λ t. opening wide ++ (34 ∷ t)) (u.parts ∙ ap (λ t. flat_map item_text u.items ++ t) end);
-        fit = subst (AreItems wide 34 u.items u.values) end u.fit;
-        same = u.same;
-      })
-    | inr a ↦ absurd (none_found a.1) ]
+    elim (chosen (bytes_eq (units_at wide bytes).1 (34 ∷ [])) (Some ((units_at wide bytes).0, wide)) None (Some found) h) [
+      | inl a ↦
+          let u = units_sound wide bytes in
+          let same : ((units_at wide bytes).0, wide) ≡ found = (let e = a.1 in cc) in
+          let end : (units_at wide bytes).1 ≡ 34 ∷ [] = same_text (units_at wide bytes).1 (34 ∷ []) a.0 in
+          let P : List ℤ × Bool → Type 0 = λ y. IsLiteral (opening wide ++ (34 ∷ bytes)) y.0 y.1 in
+          subst P same (record {
+            items = u.items;
+            values = u.values;
+            parts = ap (λ t. opening wide ++ (34 ∷ t)) (u.parts ∙ ap (λ t. flat_map item_text u.items ++ t) end);
+            fit = subst (AreItems wide 34 u.items u.values) end u.fit;
+            same = u.same;
+          })
+      | inr a ↦ absurd (none_found a.1)
+    ]
 
 no_item : (wide : Bool) → item_at wide 34 (34 ∷ []) ≡ None
 unfolding item_at
@@ -72,19 +74,22 @@ pub character_sound : (text : List ℕ) (found : ℤ × Bool) → character_of t
 unfolding character_of
 character_sound [] found h = absurd (none_found h)
 character_sound (a ∷ []) found h =
-    elim (chosen (a == 39) (closed false (item_at false 39 [])) (cond (a == 76 && false) (closed true (item_at true 39 [])) None) (Some found) h)
-    [ inl x ↦ subst (λ b. IsCharacter (b ∷ []) found.0 found.1) (sym (eqb-true a 39 x.0)) (closed_sound false [] (item_at false 39 []) found refl x.1)
-    | inr x ↦ elim (chosen (a == 76 && false) (closed true (item_at true 39 [])) None (Some found) x.1)
-      [ inl y ↦ absurd (let e = (and_parts (a == 76) false y.0).1 in cc) | inr y ↦ absurd (none_found y.1) ] ]
+    elim (chosen (a == 39) (closed false (item_at false 39 [])) (cond (a == 76 && false) (closed true (item_at true 39 [])) None) (Some found) h) [
+      | inl x ↦ subst (λ b. IsCharacter (b ∷ []) found.0 found.1) (sym (eqb-true a 39 x.0)) (closed_sound false [] (item_at false 39 []) found refl x.1)
+      | inr x ↦ elim (chosen (a == 76 && false) (closed true (item_at true 39 [])) None (Some found) x.1)
+          [ inl y ↦ absurd (let e = (and_parts (a == 76) false y.0).1 in cc) | inr y ↦ absurd (none_found y.1) ]
+    ]
 character_sound (a ∷ b ∷ rest) found h =
-    elim (chosen (a == 39) (closed false (item_at false 39 (b ∷ rest))) (cond (a == 76 && b == 39) (closed true (item_at true 39 rest)) None) (Some found) h)
-    [ inl x ↦ subst (λ k. IsCharacter (k ∷ b ∷ rest) found.0 found.1) (sym (eqb-true a 39 x.0)) (closed_sound false (b ∷ rest) (item_at false 39 (b ∷ rest)) found refl x.1)
-    | inr x ↦ elim (chosen (a == 76 && b == 39) (closed true (item_at true 39 rest)) None (Some found) x.1)
-      [ inl y ↦
-        let both = and_parts (a == 76) (b == 39) y.0 in
-        let P : ℕ → ℕ → Type 0 = λ k m. IsCharacter (k ∷ m ∷ rest) found.0 found.1 in
-        subst (λ k. P k b) (sym (eqb-true a 76 both.0)) (subst (P 76) (sym (eqb-true b 39 both.1)) (closed_sound true rest (item_at true 39 rest) found refl y.1))
-      | inr y ↦ absurd (none_found y.1) ] ]
+    elim (chosen (a == 39) (closed false (item_at false 39 (b ∷ rest))) (cond (a == 76 && b == 39) (closed true (item_at true 39 rest)) None) (Some found) h) [
+      | inl x ↦ subst (λ k. IsCharacter (k ∷ b ∷ rest) found.0 found.1) (sym (eqb-true a 39 x.0)) (closed_sound false (b ∷ rest) (item_at false 39 (b ∷ rest)) found refl x.1)
+      | inr x ↦ elim (chosen (a == 76 && b == 39) (closed true (item_at true 39 rest)) None (Some found) x.1) [
+        | inl y ↦
+            let both = and_parts (a == 76) (b == 39) y.0 in
+            let P : ℕ → ℕ → Type 0 = λ k m. IsCharacter (k ∷ m ∷ rest) found.0 found.1 in
+            subst (λ k. P k b) (sym (eqb-true a 76 both.0)) (subst (P 76) (sym (eqb-true b 39 both.1)) (closed_sound true rest (item_at true 39 rest) found refl y.1))
+        | inr y ↦ absurd (none_found y.1)
+      ]
+    ]
 
 pub character_full : (text : List ℕ) (value : ℤ) (wide : Bool) → IsCharacter text value wide → character_of text ≡ Some (value, wide)
 unfolding character_of
@@ -103,19 +108,22 @@ pub literal_sound : (text : List ℕ) (found : List ℤ × Bool) → literal_of 
 unfolding literal_of
 literal_sound [] found h = absurd (none_found h)
 literal_sound (a ∷ []) found h =
-    elim (chosen (a == 34) (ended false (units_at false [])) (cond (a == 76 && false) (ended true (units_at true [])) None) (Some found) h)
-    [ inl x ↦ subst (λ b. IsLiteral (b ∷ []) found.0 found.1) (sym (eqb-true a 34 x.0)) (ended_sound false [] found x.1)
-    | inr x ↦ elim (chosen (a == 76 && false) (ended true (units_at true [])) None (Some found) x.1)
-      [ inl y ↦ absurd (let e = (and_parts (a == 76) false y.0).1 in cc) | inr y ↦ absurd (none_found y.1) ] ]
+    elim (chosen (a == 34) (ended false (units_at false [])) (cond (a == 76 && false) (ended true (units_at true [])) None) (Some found) h) [
+      | inl x ↦ subst (λ b. IsLiteral (b ∷ []) found.0 found.1) (sym (eqb-true a 34 x.0)) (ended_sound false [] found x.1)
+      | inr x ↦ elim (chosen (a == 76 && false) (ended true (units_at true [])) None (Some found) x.1)
+          [ inl y ↦ absurd (let e = (and_parts (a == 76) false y.0).1 in cc) | inr y ↦ absurd (none_found y.1) ]
+    ]
 literal_sound (a ∷ b ∷ rest) found h =
-    elim (chosen (a == 34) (ended false (units_at false (b ∷ rest))) (cond (a == 76 && b == 34) (ended true (units_at true rest)) None) (Some found) h)
-    [ inl x ↦ subst (λ k. IsLiteral (k ∷ b ∷ rest) found.0 found.1) (sym (eqb-true a 34 x.0)) (ended_sound false (b ∷ rest) found x.1)
-    | inr x ↦ elim (chosen (a == 76 && b == 34) (ended true (units_at true rest)) None (Some found) x.1)
-      [ inl y ↦
-        let both = and_parts (a == 76) (b == 34) y.0 in
-        let P : ℕ → ℕ → Type 0 = λ k m. IsLiteral (k ∷ m ∷ rest) found.0 found.1 in
-        subst (λ k. P k b) (sym (eqb-true a 76 both.0)) (subst (P 76) (sym (eqb-true b 34 both.1)) (ended_sound true rest found y.1))
-      | inr y ↦ absurd (none_found y.1) ] ]
+    elim (chosen (a == 34) (ended false (units_at false (b ∷ rest))) (cond (a == 76 && b == 34) (ended true (units_at true rest)) None) (Some found) h) [
+      | inl x ↦ subst (λ k. IsLiteral (k ∷ b ∷ rest) found.0 found.1) (sym (eqb-true a 34 x.0)) (ended_sound false (b ∷ rest) found x.1)
+      | inr x ↦ elim (chosen (a == 76 && b == 34) (ended true (units_at true rest)) None (Some found) x.1) [
+        | inl y ↦
+            let both = and_parts (a == 76) (b == 34) y.0 in
+            let P : ℕ → ℕ → Type 0 = λ k m. IsLiteral (k ∷ m ∷ rest) found.0 found.1 in
+            subst (λ k. P k b) (sym (eqb-true a 76 both.0)) (subst (P 76) (sym (eqb-true b 34 both.1)) (ended_sound true rest found y.1))
+        | inr y ↦ absurd (none_found y.1)
+      ]
+    ]
 
 pub literal_full : (text : List ℕ) (units : List ℤ) (wide : Bool) → IsLiteral text units wide → literal_of text ≡ Some (units, wide)
 unfolding literal_of

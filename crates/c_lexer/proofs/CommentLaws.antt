@@ -1,7 +1,7 @@
 -- The end of a comment and of a text between quotes is the first there is.
-use Rattle.std.proofs.Common.{◌≡◌, ◌⊎◌, inl, inr, ℕ, List, [], ◌∷◌, ◌++◌, Bool, true, false, ◌==◌, ◌&&◌, cond, drop, length, refl, sym, ◌∙◌, ap, subst, arith}
+use Rattle.std.proofs.Common.{◌≡◌, inl, inr, ℕ, List, [], ◌∷◌, ◌++◌, Bool, true, false, ◌==◌, ◌&&◌, cond, drop, refl, sym, ◌∙◌, ap, subst, arith}
 use Rattle.std.proofs.lemmas.Bool.{and_parts, eqb-true, eqb-false, eq-eqb, false≢true}
-use Rattle.std.specs.Prelude.{Option, Some, None, IfSome, IfNone, ◌≢◌, slice_index}
+use Rattle.std.specs.Prelude.{Option, Some, None, IfSome, IfNone, slice_index}
 use Rattle.std.specs.Borrow.{Bor}
 use Rattle.std.specs.Option.{option_copied}
 use Rattle.c_lexer.specs.Comments.{NoClose, IsInner}
@@ -46,9 +46,10 @@ closed_later byte bytes after test c = record {
 pub close_sound : (bytes after : List ℕ) → past_close bytes ≡ Some after → Closed bytes after
 close_sound [] after h = absurd (none_found h)
 close_sound (byte ∷ bytes) after h =
-    elim (chosen (byte == 42 && slice_index bytes 0 == 47) (Some (drop 1 bytes)) (past_close bytes) (Some after) h)
-    [ inl a ↦ (let both = and_parts (byte == 42) (slice_index bytes 0 == 47) a.0 in closed_here byte bytes after both.0 both.1 (let e = a.1 in cc))
-    | inr a ↦ closed_later byte bytes after a.0 (close_sound bytes after a.1) ]
+    elim (chosen (byte == 42 && slice_index bytes 0 == 47) (Some (drop 1 bytes)) (past_close bytes) (Some after) h) [
+      | inl a ↦ (let both = and_parts (byte == 42) (slice_index bytes 0 == 47) a.0 in closed_here byte bytes after both.0 both.1 (let e = a.1 in cc))
+      | inr a ↦ closed_later byte bytes after a.0 (close_sound bytes after a.1)
+    ]
 
 -- where none is found there is none
 pub close_none : (bytes : List ℕ) → past_close bytes ≡ None → NoClose bytes
@@ -80,19 +81,22 @@ pub record Ended (quote : ℕ) (hidden : Bool) (bytes after : List ℕ) : Type 0
 pub quote_sound : (quote : ℕ) (hidden : Bool) (bytes after : List ℕ) → past_quote quote hidden bytes ≡ Some after → Ended quote hidden bytes after
 quote_sound quote hidden [] after h = absurd (none_found h)
 quote_sound quote true (byte ∷ bytes) after h =
-    elim (chosen (byte == 10) None (past_quote quote false bytes) (Some after) h)
-    [ inl a ↦ absurd (none_found a.1)
-    | inr a ↦
-      let e = quote_sound quote false bytes after a.1 in
-      record { inner = byte ∷ e.inner; parts = ap (λ t. byte ∷ t) e.parts; inside = (eqb-false byte 10 a.0, e.inside) } ]
+    elim (chosen (byte == 10) None (past_quote quote false bytes) (Some after) h) [
+      | inl a ↦ absurd (none_found a.1)
+      | inr a ↦
+          let e = quote_sound quote false bytes after a.1 in
+          record { inner = byte ∷ e.inner; parts = ap (λ t. byte ∷ t) e.parts; inside = (eqb-false byte 10 a.0, e.inside) }
+    ]
 quote_sound quote false (byte ∷ bytes) after h =
-    elim (chosen (byte == 10) None (cond (byte == quote) (Some bytes) (past_quote quote (byte == 92) bytes)) (Some after) h)
-    [ inl a ↦ absurd (none_found a.1)
-    | inr a ↦ elim (chosen (byte == quote) (Some bytes) (past_quote quote (byte == 92) bytes) (Some after) a.1)
-      [ inl b ↦ record { inner = []; parts = (let e : byte ≡ quote = eqb-true byte quote b.0 in let f = b.1 in cc); inside = refl }
-      | inr b ↦
-        let e = quote_sound quote (byte == 92) bytes after b.1 in
-        record { inner = byte ∷ e.inner; parts = ap (λ t. byte ∷ t) e.parts; inside = (eqb-false byte 10 a.0, eqb-false byte quote b.0, e.inside) } ] ]
+    elim (chosen (byte == 10) None (cond (byte == quote) (Some bytes) (past_quote quote (byte == 92) bytes)) (Some after) h) [
+      | inl a ↦ absurd (none_found a.1)
+      | inr a ↦ elim (chosen (byte == quote) (Some bytes) (past_quote quote (byte == 92) bytes) (Some after) a.1) [
+        | inl b ↦ record { inner = []; parts = (let e : byte ≡ quote = eqb-true byte quote b.0 in let f = b.1 in cc); inside = refl }
+        | inr b ↦
+            let e = quote_sound quote (byte == 92) bytes after b.1 in
+            record { inner = byte ∷ e.inner; parts = ap (λ t. byte ∷ t) e.parts; inside = (eqb-false byte 10 a.0, eqb-false byte quote b.0, e.inside) }
+      ]
+    ]
 
 pub quote_full : (quote : ℕ) (hidden : Bool) (inner after : List ℕ) → (quote ≡ 10 → ⊥) → IsInner quote hidden inner → past_quote quote hidden (inner ++ (quote ∷ after)) ≡ Some after
 quote_full quote true [] after not_feed inside = absurd (false≢true (sym inside))

@@ -1,5 +1,5 @@
 -- A directive line is read exactly, but for pragmas.
-use Rattle.std.proofs.Common.{◌≡◌, ◌⊎◌, inl, inr, ℕ, ◌+◌, ◌<◌, ◌≤◌, List, [], ◌∷◌, ◌++◌, Bool, true, false, ◌==◌, ◌||◌, ◌&&◌, cond, length, take, drop, refl, sym, ◌∙◌, ap, subst, arith, append_assoc}
+use Rattle.std.proofs.Common.{◌≡◌, inl, inr, ℕ, ◌+◌, ◌<◌, List, [], ◌∷◌, ◌++◌, Bool, true, false, ◌==◌, ◌&&◌, cond, length, take, drop, refl, sym, ◌∙◌, ap, subst, arith}
 use Rattle.std.proofs.lemmas.Bool.{and_parts, and_from, eqb-true, eqb-false, false≢true}
 use Rattle.std.proofs.lemmas.List.{take-append-drop}
 use Rattle.std.proofs.lemmas.List.Folds.{length-prefix_len}
@@ -21,12 +21,13 @@ use Rattle.c_lexer.proofs.CommentLaws.{quote_sound, quote_full}
 
 pub strip_sound : (word text after : List ℕ) → stripped word text ≡ Some after → text ≡ word ++ after
 strip_sound word text after h =
-    elim (chosen (pointwise nat_eq (take (length word) text) word) (Some (drop (length word) text)) None (Some after) h)
-    [ inl a ↦
-      let rest : drop (length word) text ≡ after = (let e = a.1 in cc) in
-      let front : take (length word) text ≡ word = (bytes_eq-Decides (take (length word) text) word).0 a.0 in
-      sym (take-append-drop (length word) text) ∙ (ap (λ t. t ++ drop (length word) text) front ∙ ap (λ t. word ++ t) rest)
-    | inr a ↦ absurd (none_found a.1) ]
+    elim (chosen (pointwise nat_eq (take (length word) text) word) (Some (drop (length word) text)) None (Some after) h) [
+      | inl a ↦
+          let rest : drop (length word) text ≡ after = (let e = a.1 in cc) in
+          let front : take (length word) text ≡ word = (bytes_eq-Decides (take (length word) text) word).0 a.0 in
+          sym (take-append-drop (length word) text) ∙ (ap (λ t. t ++ drop (length word) text) front ∙ ap (λ t. word ++ t) rest)
+      | inr a ↦ absurd (none_found a.1)
+    ]
 
 pub strip_full : (word after : List ℕ) → stripped word (word ++ after) ≡ Some after
 strip_full word after =
@@ -177,9 +178,10 @@ marker_sound text h =
 decimal_ends : (between after : List ℕ) → list_all is_blank between ≡ true → prefix_len (is_in class.Decimal) (between ++ (34 ∷ after)) ≡ 0
 decimal_ends [] after h = refl
 decimal_ends (b ∷ between) after h =
-    elim (either (b == 32) (b == 9) (and_parts (is_blank b) (list_all is_blank between) h).0)
-    [ inl e ↦ subst (λ x. prefix_len (is_in class.Decimal) (x ∷ (between ++ (34 ∷ after))) ≡ 0) (sym (eqb-true b 32 e)) refl
-    | inr e ↦ subst (λ x. prefix_len (is_in class.Decimal) (x ∷ (between ++ (34 ∷ after))) ≡ 0) (sym (eqb-true b 9 e)) refl ]
+    elim (either (b == 32) (b == 9) (and_parts (is_blank b) (list_all is_blank between) h).0) [
+      | inl e ↦ subst (λ x. prefix_len (is_in class.Decimal) (x ∷ (between ++ (34 ∷ after))) ≡ 0) (sym (eqb-true b 32 e)) refl
+      | inr e ↦ subst (λ x. prefix_len (is_in class.Decimal) (x ∷ (between ++ (34 ∷ after))) ≡ 0) (sym (eqb-true b 9 e)) refl
+    ]
 
 pub marker_full : (text : List ℕ) → IsMarker text → is_marker text ≡ true
 unfolding is_marker

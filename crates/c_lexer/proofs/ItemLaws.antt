@@ -1,10 +1,10 @@
 -- What is read as an item of a constant or literal is one, and each item is read.
-use Rattle.std.proofs.Common.{◌≡◌, ◌⊎◌, inl, inr, ℕ, zero, suc, ◌+◌, ◌-◌, ◌^◌, ◌<◌, ◌≤◌, List, [], ◌∷◌, ◌++◌, Bool, true, false, ◌==◌, ◌||◌, ◌&&◌, cond, length, take, drop, min, refl, sym, ◌∙◌, ap, subst, arith, lit<}
-use Rattle.std.proofs.lemmas.Bool.{eqb-true, eqb-false, eq-eqb, or_parts, and_parts, and_from, cases_lt, cond-true, leb-true, leb-false, ltb-true, le-leb, lt-leb, false≢true}
+use Rattle.std.proofs.Common.{◌≡◌, inl, inr, ℕ, ◌^◌, ◌<◌, ◌≤◌, List, [], ◌∷◌, ◌++◌, Bool, true, false, ◌==◌, ◌||◌, ◌&&◌, cond, length, take, drop, min, refl, sym, ◌∙◌, ap, subst, arith, lit<}
+use Rattle.std.proofs.lemmas.Bool.{eqb-true, eqb-false, or_parts, and_parts, cases_lt, cond-true, leb-true, leb-false, le-leb, lt-leb, false≢true}
 use Rattle.std.proofs.lemmas.List.{take-append-drop, length-take-le}
 use Rattle.std.proofs.lemmas.List.Sums.{prefix_len-le-length}
 use Rattle.std.proofs.Math.Seq.{take-append_seam, drop-append_seam}
-use Rattle.std.specs.Prelude.{Option, Some, None, nat_le, ◌≢◌, not}
+use Rattle.std.specs.Prelude.{Option, Some, None, nat_le}
 use Rattle.std.specs.Option.{option_map}
 use Rattle.std.specs.List.{prefix_len, list_all, AllByRecursion}
 use Rattle.std.specs.Str.Parse.{digits_value}
@@ -13,7 +13,7 @@ use Rattle.c_lexer.specs.Bytes.{is_octal}
 use Rattle.c_lexer.specs.Characters.{Item, Plain, Letter, Octal, Hexadecimal, item_text, escapes, value_at, greatest, IsItem, Ends}
 use Rattle.c_lexer.specs.ReadNumber.{value_of}
 use Rattle.c_lexer.specs.ReadCharacters.{within, numbered, escape_at, is_plain, item_at}
-use Rattle.c_lexer.proofs.Cases.{chosen, either, neq-eqb, none_found, not_false}
+use Rattle.c_lexer.proofs.Cases.{chosen, neq-eqb, none_found, not_false}
 use Rattle.c_lexer.proofs.Values.{small_enough}
 use Rattle.c_lexer.proofs.NumberLaws.{value_sound}
 use Rattle.c_lexer.proofs.Runs.{run_part, run_ends, run_whole, run_least}
@@ -28,20 +28,22 @@ pub record Digits (wide : Bool) (radix : ℕ) (count : ℕ) (bytes : List ℕ) (
 within_sound : (wide : Bool) (radix count : ℕ) (bytes : List ℕ) (value : Option ℕ) (found : ℕ × List ℕ) → 0 < count → value_of radix (take count bytes) ≡ value → within wide value (drop count bytes) ≡ Some found → Digits wide radix count bytes found
 within_sound wide radix count bytes None found some at h = absurd (none_found h)
 within_sound wide radix count bytes (Some value) found some at h =
-    elim (chosen (nat_le value (greatest wide)) (Some (value, drop count bytes)) None (Some found) h)
-    [ inl a ↦
-      let same : (value, drop count bytes) ≡ found = (let e = a.1 in cc) in
-      subst (Digits wide radix count bytes) same (record { some = some; value = (value_sound radix value (take count bytes) at).1; fits = leb-true _ _ a.0; after = refl })
-    | inr a ↦ absurd (none_found a.1) ]
+    elim (chosen (nat_le value (greatest wide)) (Some (value, drop count bytes)) None (Some found) h) [
+      | inl a ↦
+          let same : (value, drop count bytes) ≡ found = (let e = a.1 in cc) in
+          subst (Digits wide radix count bytes) same (record { some = some; value = (value_sound radix value (take count bytes) at).1; fits = leb-true _ _ a.0; after = refl })
+      | inr a ↦ absurd (none_found a.1)
+    ]
 
 pub numbered_sound : (wide : Bool) (radix count : ℕ) (bytes : List ℕ) (found : ℕ × List ℕ) → numbered wide radix count bytes ≡ Some found → Digits wide radix count bytes found
 unfolding numbered
 numbered_sound wide radix count bytes found h =
-    elim (chosen (count == 0) None (within wide (value_of radix (take count bytes)) (drop count bytes)) (Some found) h)
-    [ inl a ↦ absurd (none_found a.1)
-    | inr a ↦
-      let no : count ≡ 0 → ⊥ = eqb-false count 0 a.0 in
-      within_sound wide radix count bytes (value_of radix (take count bytes)) found (omega (arith, no)) refl a.1 ]
+    elim (chosen (count == 0) None (within wide (value_of radix (take count bytes)) (drop count bytes)) (Some found) h) [
+      | inl a ↦ absurd (none_found a.1)
+      | inr a ↦
+          let no : count ≡ 0 → ⊥ = eqb-false count 0 a.0 in
+          within_sound wide radix count bytes (value_of radix (take count bytes)) found (omega (arith, no)) refl a.1
+    ]
 
 greatest_small : (wide : Bool) → greatest wide < 2 ^ 64
 greatest_small true = lit< tt
@@ -74,7 +76,7 @@ octal_sound wide quote bytes found h =
       parts = ap (λ t. 92 ∷ t) (sym (take-append-drop n bytes) ∙ ap (λ t. take n bytes ++ t) (sym d.after));
       fits = (omega (arith, long, d.some), omega (arith, long), run_part is_octal bytes n (omega arith), d.value, d.fits);
       ends = λ (lt : length (take n bytes) < 3). (let e : n ≡ prefix_len is_octal bytes = omega (arith, long, lt) in
-        ap (prefix_len is_octal) (d.after ∙ ap (λ k. drop k bytes) e) ∙ run_ends is_octal bytes);
+          ap (prefix_len is_octal) (d.after ∙ ap (λ k. drop k bytes) e) ∙ run_ends is_octal bytes);
     }
 
 hex_sound : (wide : Bool) (quote : ℕ) (bytes : List ℕ) (found : ℕ × List ℕ) → numbered wide 16 (prefix_len is_ascii_hexdigit bytes) bytes ≡ Some found → HasItem wide quote (92 ∷ 120 ∷ bytes) found
@@ -99,11 +101,13 @@ escape_sound : (wide : Bool) (quote : ℕ) (bytes : List ℕ) (found : ℕ × Li
 unfolding escape_at
 escape_sound wide quote [] found h = absurd (none_found h)
 escape_sound wide quote (byte ∷ bytes) found h =
-    elim (chosen (is_octal byte) (numbered wide 8 (min 3 (prefix_len is_octal (byte ∷ bytes))) (byte ∷ bytes)) (cond (byte == 120) (numbered wide 16 (prefix_len is_ascii_hexdigit bytes) bytes) (option_map {U = ℕ × List ℕ} (λ x. (x, bytes)) (value_at escapes byte))) (Some found) h)
-    [ inl a ↦ octal_sound wide quote (byte ∷ bytes) found a.1
-    | inr a ↦ elim (chosen (byte == 120) (numbered wide 16 (prefix_len is_ascii_hexdigit bytes) bytes) (option_map {U = ℕ × List ℕ} (λ x. (x, bytes)) (value_at escapes byte)) (Some found) a.1)
-      [ inl b ↦ subst (λ x. HasItem wide quote (92 ∷ x ∷ bytes) found) (sym (eqb-true byte 120 b.0)) (hex_sound wide quote bytes found b.1)
-      | inr b ↦ letter_sound wide quote byte bytes (value_at escapes byte) found refl b.1 ] ]
+    elim (chosen (is_octal byte) (numbered wide 8 (min 3 (prefix_len is_octal (byte ∷ bytes))) (byte ∷ bytes)) (cond (byte == 120) (numbered wide 16 (prefix_len is_ascii_hexdigit bytes) bytes) (option_map {U = ℕ × List ℕ} (λ x. (x, bytes)) (value_at escapes byte))) (Some found) h) [
+      | inl a ↦ octal_sound wide quote (byte ∷ bytes) found a.1
+      | inr a ↦ elim (chosen (byte == 120) (numbered wide 16 (prefix_len is_ascii_hexdigit bytes) bytes) (option_map {U = ℕ × List ℕ} (λ x. (x, bytes)) (value_at escapes byte)) (Some found) a.1) [
+        | inl b ↦ subst (λ x. HasItem wide quote (92 ∷ x ∷ bytes) found) (sym (eqb-true byte 120 b.0)) (hex_sound wide quote bytes found b.1)
+        | inr b ↦ letter_sound wide quote byte bytes (value_at escapes byte) found refl b.1
+      ]
+    ]
 
 wide_small : (wide : Bool) (byte : ℕ) → (wide && nat_le 128 byte) ≡ false → wide ≡ true → byte < 128
 wide_small true byte h is = (let no = leb-false 128 byte h in omega (arith, no))
@@ -120,10 +124,11 @@ pub item_sound : (wide : Bool) (quote : ℕ) (bytes : List ℕ) (found : ℕ × 
 unfolding item_at
 item_sound wide quote [] found h = absurd (none_found h)
 item_sound wide quote (byte ∷ bytes) found h =
-    elim (chosen (byte == 92) (escape_at wide bytes) (cond (is_plain wide quote byte) (Some (byte, bytes)) None) (Some found) h)
-    [ inl a ↦ subst (λ x. HasItem wide quote (x ∷ bytes) found) (sym (eqb-true byte 92 a.0)) (escape_sound wide quote bytes found a.1)
-    | inr a ↦ elim (chosen (is_plain wide quote byte) (Some (byte, bytes)) None (Some found) a.1)
-      [ inl b ↦ plain_sound wide quote byte bytes found a.0 b.0 (let e = b.1 in cc) | inr b ↦ absurd (none_found b.1) ] ]
+    elim (chosen (byte == 92) (escape_at wide bytes) (cond (is_plain wide quote byte) (Some (byte, bytes)) None) (Some found) h) [
+      | inl a ↦ subst (λ x. HasItem wide quote (x ∷ bytes) found) (sym (eqb-true byte 92 a.0)) (escape_sound wide quote bytes found a.1)
+      | inr a ↦ elim (chosen (is_plain wide quote byte) (Some (byte, bytes)) None (Some found) a.1)
+          [ inl b ↦ plain_sound wide quote byte bytes found a.0 b.0 (let e = b.1 in cc) | inr b ↦ absurd (none_found b.1) ]
+    ]
 
 at_row : (P : ℕ → ℕ → Type 0) (key byte value found : ℕ) (rest : Option ℕ) (b : Bool) → (key == byte) ≡ b → P key value → (rest ≡ Some found → P byte found) → cond b (Some value) rest ≡ Some found → P byte found
 at_row P key byte value found rest true same p more h =

@@ -1,5 +1,5 @@
 -- The first row of the table that stands at the front is the longest mark that does.
-use Rattle.std.proofs.Common.{◌≡◌, ◌⊎◌, inl, inr, ℕ, ◌≤◌, List, [], ◌∷◌, ◌++◌, Bool, true, false, ◌||◌, ◌&&◌, cond, length, drop, refl, sym, ◌∙◌, ap, subst, arith}
+use Rattle.std.proofs.Common.{◌≡◌, inl, inr, ℕ, ◌≤◌, List, [], ◌∷◌, ◌++◌, Bool, true, false, ◌||◌, ◌&&◌, cond, length, drop, refl, sym, ◌∙◌, ap, subst, arith}
 use Rattle.std.proofs.lemmas.Bool.{and_parts, leb-true, false≢true}
 use Rattle.std.proofs.lemmas.Bool.Decides.{Decides-eqb}
 use Rattle.std.proofs.lemmas.Slice.Eq.{bytes_eq-Decides, starts_is}
@@ -10,7 +10,7 @@ use Rattle.c_lexer.specs.declared.punct.Punct.{Punct}
 use Rattle.c_lexer.specs.declared.punct.Punct.TheVariants as p
 use Rattle.c_lexer.specs.Marks.{mark_text, marks, IsLongestMark}
 use Rattle.c_lexer.specs.ReadMark.{first_of, measured, mark_at}
-use Rattle.c_lexer.proofs.Cases.{chosen, either, none_found}
+use Rattle.c_lexer.proofs.Cases.{either, none_found}
 
 -- rows of no shorter texts, and then one of this text
 abbrev reaches : List (List ℕ × Punct) → List ℕ → Bool
@@ -29,14 +29,15 @@ found_now row rows key bytes true at h begins more = record {
   row = row;
   found = ap (λ b. cond b (Some row) (first_of rows bytes)) at;
   long = elim (either (bytes_eq row.0 key) (nat_le (length key) (length row.0) && reaches rows key) h)
-    [ inl a ↦ omega (arith, ap length ((bytes_eq-Decides row.0 key).0 a)) | inr a ↦ leb-true (length key) (length row.0) (and_parts _ _ a).0 ];
+      [ inl a ↦ omega (arith, ap length ((bytes_eq-Decides row.0 key).0 a)) | inr a ↦ leb-true (length key) (length row.0) (and_parts _ _ a).0 ];
 }
 found_now row rows key bytes false at h begins more =
-    elim (either (bytes_eq row.0 key) (nat_le (length key) (length row.0) && reaches rows key) h)
-    [ inl a ↦ absurd (false≢true (sym at ∙ (ap (starts_with nat_eq bytes) ((bytes_eq-Decides row.0 key).0 a) ∙ begins)))
-    | inr a ↦
-      let f = more (and_parts _ _ a).1 in
-      record { row = f.row; found = ap (λ b. cond b (Some row) (first_of rows bytes)) at ∙ f.found; long = f.long } ]
+    elim (either (bytes_eq row.0 key) (nat_le (length key) (length row.0) && reaches rows key) h) [
+      | inl a ↦ absurd (false≢true (sym at ∙ (ap (starts_with nat_eq bytes) ((bytes_eq-Decides row.0 key).0 a) ∙ begins)))
+      | inr a ↦
+          let f = more (and_parts _ _ a).1 in
+          record { row = f.row; found = ap (λ b. cond b (Some row) (first_of rows bytes)) at ∙ f.found; long = f.long }
+    ]
 
 find_reached : (rows : List (List ℕ × Punct)) (key bytes : List ℕ) → reaches rows key ≡ true → starts_with nat_eq bytes key ≡ true → Found rows key bytes
 find_reached [] key bytes h begins = absurd (false≢true h)
@@ -113,20 +114,25 @@ right_rows = (refl, (refl, (refl, (refl, (refl, (refl, (refl, (refl, (refl, (ref
 read_sound : (bytes : List ℕ) (o : Option (List ℕ × Punct)) (r : Option (Punct × ℕ)) → first_of marks bytes ≡ o → r ≡ measured o → IfSome r (λ found. IsLongestMark bytes found.0 found.1) × IfNone r ((mark : Punct) (after : List ℕ) → bytes ≡ mark_text mark ++ after → ⊥)
 read_sound bytes (Some row) None at h = absurd (none_found h)
 read_sound bytes None (Some found) at h = absurd (none_found (sym h))
-read_sound bytes None None at h = (tt, λ mark after is.
-    let f = find_reached marks (mark_text mark) bytes (each_reached mark) (begins bytes (mark_text mark) after is) in none_found (sym at ∙ f.found))
+read_sound bytes None None at h = (
+  tt,
+  λ mark after is.
+      let f = find_reached marks (mark_text mark) bytes (each_reached mark) (begins bytes (mark_text mark) after is) in none_found (sym at ∙ f.found),
+)
 read_sound bytes (Some row) (Some found) at h =
     let same : (row.1, length row.0) ≡ found = cc in
     let right = row_sound marks bytes row right_rows at in
-    let P : Punct × ℕ → Type 0 = λ x. IsLongestMark bytes x.0 x.1 in
-    (subst P same (record {
-      front = right.1 ∙ ap (λ t. t ++ drop (length row.0) bytes) right.0;
-      count_is = ap length right.0;
-      longest = λ other after is.
-        let f = find_reached marks (mark_text other) bytes (each_reached other) (begins bytes (mark_text other) after is) in
-        let one : row ≡ f.row = (let e = sym at ∙ f.found in cc) in
-        omega (arith, f.long, ap (λ (x : List ℕ × Punct). length x.0) one);
-    }), tt)
+    let P : Punct × ℕ → Type 0 = λ x. IsLongestMark bytes x.0 x.1 in (
+      subst P same (record {
+        front = right.1 ∙ ap (λ t. t ++ drop (length row.0) bytes) right.0;
+        count_is = ap length right.0;
+        longest = λ other after is.
+            let f = find_reached marks (mark_text other) bytes (each_reached other) (begins bytes (mark_text other) after is) in
+            let one : row ≡ f.row = (let e = sym at ∙ f.found in cc) in
+            omega (arith, f.long, ap (λ (x : List ℕ × Punct). length x.0) one);
+      }),
+      tt,
+    )
 
 pub mark_found : (bytes : List ℕ) (r : Option (Punct × ℕ)) → r ≡ mark_at bytes → IfSome r (λ found. IsLongestMark bytes found.0 found.1)
 unfolding mark_at

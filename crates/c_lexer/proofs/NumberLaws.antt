@@ -1,12 +1,11 @@
 -- What is read as a number is one, and each number is read.
-use Rattle.std.proofs.Common.{◌≡◌, ◌⊎◌, inl, inr, ℕ, ◌+◌, ◌^◌, ◌<◌, ◌≤◌, List, [], ◌∷◌, ◌++◌, Bool, true, false, ◌==◌, ◌||◌, cond, length, take, drop, refl, sym, ◌∙◌, ap, subst, arith, eqb}
+use Rattle.std.proofs.Common.{◌≡◌, ◌⊎◌, inl, inr, ℕ, ◌^◌, ◌<◌, List, [], ◌∷◌, ◌++◌, Bool, true, false, ◌==◌, ◌||◌, cond, length, take, drop, refl, sym, ◌∙◌, ap, subst, arith}
 use Rattle.std.proofs.lemmas.Bool.{ltb-true, eqb-true, eqb-false, eq-eqb}
 use Rattle.std.proofs.lemmas.List.{take-append-drop}
-use Rattle.std.proofs.lemmas.List.Sums.{prefix_len-le-length}
 use Rattle.std.proofs.lemmas.List.Folds.{length-prefix_len}
 use Rattle.std.proofs.Math.Seq.{take-append_seam, drop-append_seam}
 use Rattle.std.specs.Prelude.{Option, Some, None, nat_lt, slice_index, codes, IfSome, IfNone, ◌≢◌}
-use Rattle.std.specs.List.{prefix_len, list_all}
+use Rattle.std.specs.List.{prefix_len}
 use Rattle.std.specs.Str.Parse.{digits_value}
 use Rattle.c_lexer.specs.declared.number.Base.{Base}
 use Rattle.c_lexer.specs.declared.number.Base.TheVariants.{Decimal, Octal, Hexadecimal}
@@ -50,21 +49,22 @@ unfolding constant
 constant_sound base text number h =
     let p = is_in (digits_of base) in
     let count = prefix_len (is_in (digits_of base)) text in
-    elim (chosen (count == 0) None (with_value base (value_of (radix base) (take count text)) (drop count text)) (Some number) h)
-    [ inl a ↦ absurd (none_found a.1)
-    | inr a ↦
-      let r = value_read base (take count text) (drop count text) (value_of (radix base) (take count text)) number refl a.1 in
-      record {
-        digits = take count text;
-        suffix = drop count text;
-        parts = sym (take-append-drop count text);
-        some = (let some : count ≡ 0 → ⊥ = eqb-false count 0 a.0 in omega (arith, some, length-prefix_len (is_in (digits_of base)) text));
-        each = run_all (is_in (digits_of base)) text;
-        ending = r.ending;
-        value = r.value;
-        fits = r.fits;
-        notation = r.notation;
-      } ]
+    elim (chosen (count == 0) None (with_value base (value_of (radix base) (take count text)) (drop count text)) (Some number) h) [
+      | inl a ↦ absurd (none_found a.1)
+      | inr a ↦
+          let r = value_read base (take count text) (drop count text) (value_of (radix base) (take count text)) number refl a.1 in
+          record {
+            digits = take count text;
+            suffix = drop count text;
+            parts = sym (take-append-drop count text);
+            some = (let some : count ≡ 0 → ⊥ = eqb-false count 0 a.0 in omega (arith, some, length-prefix_len (is_in (digits_of base)) text));
+            each = run_all (is_in (digits_of base)) text;
+            ending = r.ending;
+            value = r.value;
+            fits = r.fits;
+            notation = r.notation;
+          }
+    ]
 
 -- no suffix begins with a digit
 suffix_ends : (base : Base) (suffix : List ℕ) (s : Bool × ℕ) → lookup suffixes suffix ≡ Some s → prefix_len (is_in (digits_of base)) suffix ≡ 0
@@ -107,10 +107,11 @@ hex_sound (a ∷ b ∷ rest) number zero x h =
 pub number_sound : (text : List ℕ) (number : Number) → number_of text ≡ Some number → IsNumber text number
 unfolding number_of
 number_sound text number h =
-    elim (chosen (slice_index text 0 == 48) (cond (slice_index text 1 == 120 || slice_index text 1 == 88) (constant Hexadecimal (drop 2 text)) (constant Octal text)) (constant Decimal text) (Some number) h)
-    [ inl a ↦ elim (chosen (slice_index text 1 == 120 || slice_index text 1 == 88) (constant Hexadecimal (drop 2 text)) (constant Octal text) (Some number) a.1)
-      [ inl b ↦ hex_sound text number a.0 b.0 b.1 | inr b ↦ plain_sound Octal text number refl (eqb-true _ _ a.0) b.1 ]
-    | inr a ↦ plain_sound Decimal text number refl (eqb-false _ _ a.0) a.1 ]
+    elim (chosen (slice_index text 0 == 48) (cond (slice_index text 1 == 120 || slice_index text 1 == 88) (constant Hexadecimal (drop 2 text)) (constant Octal text)) (constant Decimal text) (Some number) h) [
+      | inl a ↦ elim (chosen (slice_index text 1 == 120 || slice_index text 1 == 88) (constant Hexadecimal (drop 2 text)) (constant Octal text) (Some number) a.1)
+          [ inl b ↦ hex_sound text number a.0 b.0 b.1 | inr b ↦ plain_sound Octal text number refl (eqb-true _ _ a.0) b.1 ]
+      | inr a ↦ plain_sound Decimal text number refl (eqb-false _ _ a.0) a.1
+    ]
 
 -- 0x and 0X begin no octal constant
 octal_x : (rest : List ℕ) → constant Octal (48 ∷ 120 ∷ rest) ≡ None
@@ -124,9 +125,10 @@ octal_X rest = refl
 no_x : (b : ℕ) (rest : List ℕ) (number : Number) → constant Octal (48 ∷ b ∷ rest) ≡ Some number → (t : Bool) → (b == 120 || b == 88) ≡ t → t ≡ false
 no_x b rest number h false is = refl
 no_x b rest number h true is =
-    elim (either (b == 120) (b == 88) is)
-    [ inl e ↦ absurd (none_found (sym (octal_x rest) ∙ (ap (λ x. constant Octal (48 ∷ x ∷ rest)) (sym (eqb-true b 120 e)) ∙ h)))
-    | inr e ↦ absurd (none_found (sym (octal_X rest) ∙ (ap (λ x. constant Octal (48 ∷ x ∷ rest)) (sym (eqb-true b 88 e)) ∙ h))) ]
+    elim (either (b == 120) (b == 88) is) [
+      | inl e ↦ absurd (none_found (sym (octal_x rest) ∙ (ap (λ x. constant Octal (48 ∷ x ∷ rest)) (sym (eqb-true b 120 e)) ∙ h)))
+      | inr e ↦ absurd (none_found (sym (octal_X rest) ∙ (ap (λ x. constant Octal (48 ∷ x ∷ rest)) (sym (eqb-true b 88 e)) ∙ h)))
+    ]
 
 octal_full : (text : List ℕ) (number : Number) → slice_index text 0 ≡ 48 → constant Octal text ≡ Some number → number_of text ≡ Some number
 unfolding number_of

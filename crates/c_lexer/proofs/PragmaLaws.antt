@@ -1,8 +1,8 @@
 -- Where a comment goes on behind a line, and pragmas.
-use Rattle.std.proofs.Common.{◌≡◌, ◌⊎◌, inl, inr, ℕ, zero, suc, ◌+◌, ◌<◌, ◌≤◌, List, [], ◌∷◌, ◌++◌, Bool, true, false, ◌==◌, ◌||◌, ◌&&◌, cond, length, take, drop, get_or, ◌-◌, refl, sym, ◌∙◌, ap, subst, arith, append_assoc, length-append}
+use Rattle.std.proofs.Common.{◌≡◌, ◌⊎◌, inl, inr, ℕ, zero, suc, ◌<◌, ◌≤◌, List, [], ◌∷◌, ◌++◌, Bool, true, false, ◌==◌, ◌||◌, ◌&&◌, cond, length, take, drop, get_or, ◌-◌, refl, sym, ◌∙◌, ap, subst, arith, append_assoc, length-append}
 use Rattle.std.proofs.lemmas.Bool.{and_parts, and_from, or_parts, eqb-true, eqb-false, eq-eqb, false≢true}
 use Rattle.std.proofs.Math.Seq.{take-length}
-use Rattle.std.specs.Prelude.{Option, Some, None, Result, Ok, Err, not, codes, slice_index, ◌≢◌}
+use Rattle.std.specs.Prelude.{Option, Some, None, Ok, Err, not, codes, slice_index, ◌≢◌}
 use Rattle.std.specs.List.{prefix_len, list_all, flat_map}
 use Rattle.c_lexer.specs.declared.bytes.Class.TheVariants as class
 use Rattle.c_lexer.specs.Classes.{is_in}
@@ -10,9 +10,9 @@ use Rattle.c_lexer.specs.Comments.{NoClose, IsBlockComment, IsQuoted, IsInner}
 use Rattle.c_lexer.specs.Directives.{IsSingle, ArePieces, GoesOn, IsPragma}
 use Rattle.c_lexer.specs.ReadComment.{past_close, past_quote}
 use Rattle.c_lexer.specs.ReadDirective.{stripped, on, behind_close, behind_quote, past_piece, by_piece, goes_on_from, goes_on, ends_pragma, is_pragma}
-use Rattle.c_lexer.proofs.Cases.{chosen, either, neq-eqb, none_found, not_false}
-use Rattle.c_lexer.proofs.CommentLaws.{close_sound, close_none, quote_sound, quote_full, Closed}
-use Rattle.c_lexer.proofs.DirectiveLaws.{strip_sound, strip_full, Holds, on_true}
+use Rattle.c_lexer.proofs.Cases.{either, neq-eqb, not_false}
+use Rattle.c_lexer.proofs.CommentLaws.{close_sound, close_none, quote_sound, quote_full}
+use Rattle.c_lexer.proofs.DirectiveLaws.{strip_sound, strip_full, on_true}
 
 -- the text up to the first `*/` is one
 close_test : (byte : ℕ) (body rest : List ℕ) → NoClose (byte ∷ (body ++ (42 ∷ []))) → (t : Bool) → (byte == 42 && slice_index (body ++ (42 ∷ 47 ∷ rest)) 0 == 47) ≡ t → t ≡ false
@@ -52,8 +52,8 @@ block_more byte (b ∷ after) (Some rest) go slash star at all h =
       pieces = (47 ∷ 42 ∷ (c.body ++ (42 ∷ 47 ∷ []))) ∷ g.pieces;
       after = g.after;
       parts = (let e : byte ≡ 47 = eqb-true byte 47 slash in let f : b ≡ 42 = eqb-true b 42 star in let t : byte ∷ b ∷ after ≡ 47 ∷ 42 ∷ after = cc in t)
-        ∙ ap (λ t. 47 ∷ 42 ∷ t) (c.parts ∙ (sym (append_assoc c.body (42 ∷ 47 ∷ []) rest) ∙ (ap (λ t. (c.body ++ (42 ∷ 47 ∷ [])) ++ t) g.parts
-        ∙ sym (append_assoc (c.body ++ (42 ∷ 47 ∷ [])) (flat_map (λ p. p) g.pieces) (codes "/*" ++ g.after)))));
+          ∙ ap (λ t. 47 ∷ 42 ∷ t) (c.parts ∙ (sym (append_assoc c.body (42 ∷ 47 ∷ []) rest) ∙ (ap (λ t. (c.body ++ (42 ∷ 47 ∷ [])) ++ t) g.parts
+          ∙ sym (append_assoc (c.body ++ (42 ∷ 47 ∷ [])) (flat_map (λ p. p) g.pieces) (codes "/*" ++ g.after)))));
       each = (inl block, g.each);
       open_end = g.open_end;
     }
@@ -68,7 +68,7 @@ quote_more byte after (Some rest) go kind at all h =
       pieces = (byte ∷ (q.inner ++ (byte ∷ []))) ∷ g.pieces;
       after = g.after;
       parts = ap (λ t. byte ∷ t) (q.parts ∙ (sym (append_assoc q.inner (byte ∷ []) rest) ∙ (ap (λ t. (q.inner ++ (byte ∷ [])) ++ t) g.parts
-        ∙ sym (append_assoc (q.inner ++ (byte ∷ [])) (flat_map (λ p. p) g.pieces) (codes "/*" ++ g.after)))));
+          ∙ sym (append_assoc (q.inner ++ (byte ∷ [])) (flat_map (λ p. p) g.pieces) (codes "/*" ++ g.after)))));
       each = (inr (inl (record { quote = byte; inner = q.inner; kind = kind; parts = refl; inside = q.inside })), g.each);
       open_end = g.open_end;
     }

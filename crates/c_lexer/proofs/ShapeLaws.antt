@@ -1,13 +1,13 @@
 -- A directive line is `#`, blanks and a shape; no shape begins with a blank.
-use Rattle.std.proofs.Common.{◌≡◌, ◌⊎◌, inl, inr, ℕ, ◌≤◌, ◌<◌, List, [], ◌∷◌, ◌++◌, Bool, true, false, ◌==◌, ◌+◌, cond, length, drop, get_or, refl, sym, ◌∙◌, ap, subst, arith}
-use Rattle.std.proofs.lemmas.Bool.{and_parts, eqb-true, eq-eqb, false≢true}
-use Rattle.std.specs.Prelude.{IsTrue, ◌↔◌, codes}
+use Rattle.std.proofs.Common.{◌≡◌, inl, inr, ℕ, ◌≤◌, ◌<◌, List, [], ◌∷◌, ◌++◌, Bool, true, false, ◌==◌, ◌+◌, cond, length, drop, get_or, refl, sym, ◌∙◌, ap, subst, arith}
+use Rattle.std.proofs.lemmas.Bool.{and_parts, eqb-true, false≢true}
+use Rattle.std.specs.Prelude.{IsTrue, ◌↔◌}
 use Rattle.std.specs.List.{prefix_len, list_all}
 use Rattle.std.specs.Char.{is_ascii_digit}
 use Rattle.c_lexer.specs.declared.bytes.Class.TheVariants as class
 use Rattle.c_lexer.specs.Bytes.{is_blank}
 use Rattle.c_lexer.specs.Classes.{is_in}
-use Rattle.c_lexer.specs.Directives.{IsInclude, IsDefine, IsMarker, IsPragma, IsShape, IsDirective}
+use Rattle.c_lexer.specs.Directives.{IsShape, IsDirective}
 use Rattle.c_lexer.specs.ReadDirective.{unblank}
 use Rattle.c_lexer.proofs.Cases.{either}
 use Rattle.c_lexer.proofs.DirectiveLaws.{blanks_of, unblank_parts, blanks_blank, unblank_full}

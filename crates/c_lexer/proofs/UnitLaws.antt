@@ -1,11 +1,11 @@
 -- The units of a literal, one item at a time.
-use Rattle.std.proofs.Common.{◌≡◌, ℕ, zero, suc, ◌+◌, ◌<◌, ◌≤◌, List, [], ◌∷◌, ◌++◌, Bool, length, refl, sym, ◌∙◌, ap, subst, arith, append_assoc, length-append}
+use Rattle.std.proofs.Common.{◌≡◌, ℕ, zero, suc, ◌<◌, ◌≤◌, List, [], ◌∷◌, ◌++◌, Bool, length, refl, sym, ◌∙◌, ap, subst, arith, append_assoc, length-append}
 use Rattle.std.specs.Prelude.{ℤ, Option, Some, None, map}
 use Rattle.std.specs.List.{flat_map}
 use Rattle.c_lexer.specs.Characters.{Item, Plain, Letter, Octal, Hexadecimal, item_text, unit_of, AreItems, Ends}
 use Rattle.c_lexer.specs.ReadCharacters.{item_at, units_from, units_more, units_at}
 use Rattle.c_lexer.proofs.Cases.{none_found}
-use Rattle.c_lexer.proofs.ItemLaws.{HasItem, item_sound, item_full}
+use Rattle.c_lexer.proofs.ItemLaws.{item_sound, item_full}
 
 text_some : (item : Item) → 0 < length (item_text item)
 text_some (Plain byte) = omega arith

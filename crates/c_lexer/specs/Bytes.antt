@@ -1,6 +1,6 @@
 -- The classes of bytes that tokens are made of (5.2.1, 6.4).
 use Rattle.std.specs.Prelude.{ℕ, Bool, ◌||◌, ◌&&◌, ◌==◌, nat_le}
-use Rattle.std.specs.Char.{is_ascii_digit, is_ascii_alphabetic, is_ascii_hexdigit}
+use Rattle.std.specs.Char.{is_ascii_digit, is_ascii_alphabetic}
 
 -- a letter or an underscore (6.4.2.1)
 abbrev pub is_letter : ℕ → Bool

@@ -3,7 +3,6 @@ use Rattle.std.specs.Prelude.{◌≡◌, ◌≢◌, ◌⊎◌, ℕ, ◌==◌, Bo
 use Rattle.std.specs.List.{list_all}
 use Rattle.c_lexer.specs.declared.bytes.Class.TheVariants.{Line}
 use Rattle.c_lexer.specs.Classes.{is_in}
-use Rattle.c_lexer.specs.Characters.{opening}
 
 -- no comment is closed in these bytes: 42 and 47 are `*` and `/`
 abbrev pub NoClose : List ℕ → Type 0

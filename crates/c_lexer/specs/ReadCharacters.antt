@@ -1,5 +1,5 @@
 -- How character constants and string literals are read.
-use Rattle.std.specs.Prelude.{ℕ, zero, suc, ℤ, slice_index, ◌==◌, ◌||◌, ◌&&◌, not, Bool, true, false, List, [], ◌∷◌, length, take, drop, map, min, Option, Some, None, if◌then◌else◌, nat_le}
+use Rattle.std.specs.Prelude.{ℕ, zero, suc, ℤ, slice_index, ◌==◌, ◌||◌, ◌&&◌, not, Bool, true, false, List, [], ◌∷◌, length, take, drop, min, Option, Some, None, if◌then◌else◌, nat_le}
 use Rattle.std.specs.List.{prefix_len}
 use Rattle.std.specs.Option.{option_map}
 use Rattle.std.specs.Str.{bytes_eq}

@@ -1,7 +1,6 @@
 -- How a punctuator is read: the first row of the table that stands at the front.
 use Rattle.std.specs.Prelude.{ℕ, List, [], ◌∷◌, Option, Some, None, if◌then◌else◌, nat_eq, length}
 use Rattle.std.specs.List.{starts_with}
-use Rattle.std.specs.Option.{option_map}
 use Rattle.c_lexer.specs.declared.punct.Punct.{Punct}
 use Rattle.c_lexer.specs.Marks.{marks}
 

@@ -128,10 +128,18 @@ fn unit_of(wide: bool, value: u64) -> i32
 {
     if wide {
         let low = value % 4294967296;
-        if low < 2147483648 { low as i32 } else { (low as i64 - 4294967296) as i32 }
+        if low < 2147483648 {
+            low as i32
+        } else {
+            (low as i64 - 4294967296) as i32
+        }
     } else {
         let low = value % 256;
-        if low < 128 { low as i32 } else { low as i32 - 256 }
+        if low < 128 {
+            low as i32
+        } else {
+            low as i32 - 256
+        }
     }
 }
 
@@ -208,10 +216,7 @@ pub(crate) fn character_of(text: &[u8]) -> Option<(i32, bool)>
 }
 
 /// The units of the string literal that the whole text spells, and whether it is wide, if it spells one (6.4.5).
-pub(crate) fn literal_of(
-    alloc: Global,
-    text: &[u8],
-) -> Result<Option<(Vec<i64>, bool)>, AllocError>
+pub(crate) fn literal_of(alloc: Global, text: &[u8]) -> Result<Option<(Vec<i64>, bool)>, AllocError>
     ensures found { IfOk result (λ r. IfSome r (λ found. characters.IsLiteral text.now found.0.items found.1)) }
     ensures none { IfOk result (λ r. IfNone r ((units : List ℤ) (wide : Bool) → characters.IsLiteral text.now units wide → ⊥)) }
 {

@@ -84,7 +84,10 @@ fn marks(rt: HostRuntime) {
 fn ends(rt: HostRuntime) {
     assert_eq!(rt; past_close(b" * / **/x").map(|after| after.len()), Some(1));
     assert_eq!(rt; past_close(b"/").map(|after| after.len()), None);
-    assert_eq!(rt; past_quote(b'"', b"a\\\"b\" c").map(|after| after.len()), Some(2));
+    assert_eq!(rt;
+        past_quote(b'"', b"a\\\"b\" c").map(|after| after.len()),
+        Some(2)
+    );
     assert_eq!(rt; past_quote(b'\'', b"a\n'").map(|after| after.len()), None);
     assert_eq!(rt; number_len(b"1e+5-2"), 4);
 }

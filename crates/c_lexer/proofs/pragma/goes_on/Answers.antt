@@ -1,4 +1,4 @@
-use Rattle.std.proofs.Common.{◌≡◌, ◌≤◌, ℕ, List, get_or, drop, length, sym, ◌∙◌, subst, arith, length-take, length-drop}
+use Rattle.std.proofs.Common.{◌≡◌, ◌≤◌, ℕ, List, get_or, length, ◌∙◌, subst}
 use Rattle.std.specs.Prelude.{Ok, Err}
 use Rattle.c_lexer.specs.ReadDirective.{past_piece}
 use Rattle.c_lexer.proofs.PragmaLaws.{turn_at, stop_at, nothing_open, tail_is}
