@@ -12,3 +12,5 @@ pub mod CommentLaws
 pub mod DirectiveLaws
 pub mod PragmaLaws
 pub mod ShapeLaws
+pub mod TokenLaws
+pub mod SpellingLaws

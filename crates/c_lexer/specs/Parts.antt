@@ -1,6 +1,8 @@
 -- What a unit's bytes are split into: white spaces and tokens (6.4).
-use Rattle.std.specs.Prelude.{◌≡◌, ◌⊎◌, ℕ, Bool, true, false, List, [], ◌∷◌, slice_index}
+use Rattle.std.specs.Prelude.{◌≡◌, ◌⊎◌, ℕ, ℤ, Bool, true, false, List, [], ◌∷◌, slice_index}
 use Rattle.std.specs.List.{list_all}
+use Rattle.c_lexer.specs.declared.number.Number.{Number}
+use Rattle.c_lexer.specs.declared.punct.Punct.{Punct}
 use Rattle.c_lexer.specs.declared.word.Word.{Word}
 use Rattle.c_lexer.specs.declared.token.Body.{Body}
 use Rattle.c_lexer.specs.declared.token.Body.TheVariants as body
@@ -27,6 +29,13 @@ IsToken text (body.Number number) = IsNumber text number
 IsToken text (body.Character value wide) = IsCharacter text value wide
 IsToken text (body.Literal units wide) = IsLiteral text units wide
 IsToken text (body.Mark mark) = text ≡ mark_text mark
+
+-- the text spells no constant and no punctuator
+pub record IsNoOther (text : List ℕ) : Type 0 where
+  pub number : (number : Number) → IsNumber text number → ⊥
+  pub character : (value : ℤ) (wide : Bool) → IsCharacter text value wide → ⊥
+  pub literal : (units : List ℤ) (wide : Bool) → IsLiteral text units wide → ⊥
+  pub mark : (mark : Punct) → text ≡ mark_text mark → ⊥
 
 -- the line ends here: at a line feed, or with the bytes
 abbrev pub EndsLine : List ℕ → Type 0

@@ -10,6 +10,7 @@ mod fault;
 mod number;
 mod pragma;
 mod punct;
+mod spelling;
 mod token;
 mod tokens;
 mod units;
