@@ -8,6 +8,7 @@ mod comment;
 mod directive;
 mod fault;
 mod number;
+mod place;
 mod pragma;
 mod punct;
 mod spelling;

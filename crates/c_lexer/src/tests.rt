@@ -1,9 +1,13 @@
 use crate::characters::{character_of, literal_of};
 use crate::comment::{number_len, past_close, past_quote};
 use crate::number::number_of;
+use crate::place::behind;
 use crate::pragma::is_directive;
 use crate::punct::{Punct, mark_at};
+use crate::spelling::token_of;
+use crate::token::Body;
 use crate::word::{Word, is_outside, word_of};
+use critical_table::Pos;
 use std::test::Fail;
 
 #[test]
@@ -113,4 +117,22 @@ fn directives(rt: HostRuntime) {
     for (line, taken) in all {
         assert_eq!(rt; is_directive(line), taken);
     }
+}
+
+#[test]
+fn tokens(rt: HostRuntime) -> Result<(), Fail> {
+    let alloc = rt.alloc();
+    assert!(rt; matches!(token_of(alloc, b"while")?, Some(Body::Word(Word::While))));
+    assert!(rt; matches!(token_of(alloc, b"whiles")?, Some(Body::Name(_))));
+    assert!(rt; matches!(token_of(alloc, b"L\"a\"")?, Some(Body::Literal(_, true))));
+    assert!(rt; matches!(token_of(alloc, b"<<=")?, Some(Body::Mark(Punct::ShiftLeftAssign))));
+    assert!(rt; token_of(alloc, b"double")?.is_none());
+    assert!(rt; token_of(alloc, b"a b")?.is_none());
+    Ok(())
+}
+
+#[test]
+fn places(rt: HostRuntime) {
+    let place = behind(Pos { line: 1, column: 1 }, b"ab\n\ncd");
+    assert_eq!(rt; place, Pos { line: 3, column: 3 });
 }
