@@ -1,7 +1,7 @@
 -- A text spells at most one token.
 use Rattle.std.proofs.Common.{◌≡◌, ◌⊎◌, inl, inr, ℕ, ◌<◌, List, [], ◌∷◌, ◌++◌, Bool, true, false, ◌==◌, ◌||◌, ◌&&◌, cond, length, refl, sym, ◌∙◌, ap, subst, arith}
 use Rattle.std.proofs.lemmas.Bool.{and_parts, and_from, leb-true, le-leb, eqb-true, eq-eqb, false≢true}
-use Rattle.std.specs.Prelude.{ℤ, Option, Some, None, is_some, slice_index, codes, nat_le}
+use Rattle.std.specs.Prelude.{Result, Ok, Err, IfOk, IfSome, ℤ, Option, Some, None, is_some, slice_index, codes, nat_le}
 use Rattle.std.specs.List.{list_all}
 use Rattle.std.specs.Char.{is_ascii_digit}
 use Rattle.c_lexer.specs.declared.word.Word.{Word}
@@ -305,3 +305,8 @@ one_token text (body.Mark a) (body.Number b) is also = absurd (omega (arith, apa
 one_token text (body.Mark a) (body.Character b n) is also = absurd (omega (arith, apart_tags text (body.Mark a) (body.Character b n) is also))
 one_token text (body.Mark a) (body.Literal b n) is also = absurd (omega (arith, apart_tags text (body.Mark a) (body.Literal b n) is also))
 one_token text (body.Mark a) (body.Mark b) is also = ap body.Mark (same_found (lookup marks text) a b (ap (lookup marks) is ∙ mark_full a) (ap (lookup marks) also ∙ mark_full b))
+
+pub only_one : {E : Type 0} (text : List ℕ) (r : Result (Option Body) E) → IfOk r (λ o. IfSome o (λ token. IsToken text token)) → IfOk r (λ o. IfSome o (λ token. (other : Body) → IsToken text other → other ≡ token))
+only_one text (Err e) h = tt
+only_one text (Ok None) h = tt
+only_one text (Ok (Some token)) h = λ other is. one_token text other token is h

@@ -64,8 +64,7 @@ fn other_token(alloc: Global, text: &[u8]) -> Result<Option<Body>, AllocError>
     }
 }
 
-/// The token that the whole text spells, if it spells one (6.4).
-pub(crate) fn token_of(alloc: Global, text: &[u8]) -> Result<Option<Body>, AllocError>
+fn read_token(alloc: Global, text: &[u8]) -> Result<Option<Body>, AllocError>
     ensures found { IfOk result (λ r. IfSome r (λ token. IsToken text.now token)) }
     ensures none { IfOk result (λ r. IfNone r ((token : Body) → IsToken text.now token → ⊥)) }
 {
@@ -77,4 +76,13 @@ pub(crate) fn token_of(alloc: Global, text: &[u8]) -> Result<Option<Body>, Alloc
         return Ok(Some(Body::Name(name)));
     }
     other_token(alloc, text)
+}
+
+/// The token that the whole text spells, if it spells one; it spells no other (6.4).
+pub(crate) fn token_of(alloc: Global, text: &[u8]) -> Result<Option<Body>, AllocError>
+    ensures found { IfOk result (λ r. IfSome r (λ token. IsToken text.now token)) }
+    ensures only { IfOk result (λ r. IfSome r (λ token. (other : Body) → IsToken text.now other → other ≡ token)) }
+    ensures none { IfOk result (λ r. IfNone r ((token : Body) → IsToken text.now token → ⊥)) }
+{
+    read_token(alloc, text)
 }
