@@ -14,3 +14,4 @@ pub mod PragmaLaws
 pub mod ShapeLaws
 pub mod TokenLaws
 pub mod SpellingLaws
+pub mod Examples

@@ -32,7 +32,7 @@ shape_begins text (inr (inr (inr p))) = ap (prefix_len (is_in class.Blank)) p.pa
 to_line : (after : List ℕ) → IsShape (unblank after) → IsDirective (35 ∷ after)
 to_line after shape = record { before = blanks_of after; text = unblank after; parts = ap (λ t. 35 ∷ t) (unblank_parts after); blank = blanks_blank after; shape = shape }
 
-from_line : (byte : ℕ) (after : List ℕ) → IsDirective (byte ∷ after) → IsShape (unblank after)
+pub from_line : (byte : ℕ) (after : List ℕ) → IsDirective (byte ∷ after) → IsShape (unblank after)
 from_line byte after d =
     let rest : after ≡ d.before ++ d.text = (let e = d.parts in cc) in
     subst IsShape (sym (ap unblank rest ∙ unblank_full d.before d.text d.blank (shape_begins d.text d.shape))) d.shape
