@@ -1,15 +1,12 @@
 -- The definitions at texts whose answer is known: the row that fits at the front, and the tokens of nothing.
-use Rattle.std.proofs.Common.{◌≡◌, ◌⊎◌, inl, inr, ℕ, List, [], ◌∷◌, true, false, refl, sym, ◌∙◌, ap, arith}
+use Rattle.std.proofs.Common.{◌≡◌, inl, inr, [], true, false, refl, sym, ◌∙◌, ap, arith}
 use Rattle.std.proofs.lemmas.Bool.{false≢true}
-use Rattle.std.specs.Prelude.{ℤ, codes, Some, None}
+use Rattle.std.specs.Prelude.{codes, None}
 use Rattle.critical_table.specs.declared.refusal.Refusal.TheVariants.{Unclosed, Literal, Directive, Profile}
-use Rattle.c_lexer.specs.Stream.{Stream}
 use Rattle.c_lexer.specs.Words.{is_outside}
-use Rattle.c_lexer.specs.Characters.{IsCharacter}
-use Rattle.c_lexer.specs.Comments.{IsInner}
-use Rattle.c_lexer.specs.Directives.{IsShape, IsDirective}
+use Rattle.c_lexer.specs.Directives.{IsShape}
 use Rattle.c_lexer.specs.ReadNumber.{number_of, constant}
-use Rattle.c_lexer.specs.ReadCharacters.{character_of, item_at, escape_at, numbered}
+use Rattle.c_lexer.specs.ReadCharacters.{character_of, item_at}
 use Rattle.c_lexer.specs.ReadComment.{past_quote}
 use Rattle.c_lexer.specs.ReadDirective.{is_include, is_define, is_marker, is_pragma}
 use Rattle.c_lexer.specs.Rows.{Fits}

@@ -1,7 +1,7 @@
 -- A text spells at most one token.
-use Rattle.std.proofs.Common.{◌≡◌, ◌⊎◌, inl, inr, ℕ, ◌<◌, List, [], ◌∷◌, ◌++◌, Bool, true, false, ◌==◌, ◌||◌, ◌&&◌, cond, length, refl, sym, ◌∙◌, ap, subst, arith}
-use Rattle.std.proofs.lemmas.Bool.{and_parts, and_from, leb-true, le-leb, eqb-true, eq-eqb, false≢true}
-use Rattle.std.specs.Prelude.{Result, Ok, Err, IfOk, IfSome, ℤ, Option, Some, None, is_some, slice_index, codes, nat_le}
+use Rattle.std.proofs.Common.{◌≡◌, inl, inr, ℕ, ◌<◌, List, [], ◌∷◌, ◌++◌, Bool, true, false, ◌==◌, ◌||◌, ◌&&◌, cond, length, refl, sym, ◌∙◌, ap, subst, arith}
+use Rattle.std.proofs.lemmas.Bool.{and_parts, and_from, leb-true, le-leb, eqb-true, false≢true}
+use Rattle.std.specs.Prelude.{Result, Ok, Err, IfOk, IfSome, ℤ, Option, Some, None, is_some, slice_index, nat_le}
 use Rattle.std.specs.List.{list_all}
 use Rattle.std.specs.Char.{is_ascii_digit}
 use Rattle.c_lexer.specs.declared.word.Word.{Word}
@@ -17,12 +17,12 @@ use Rattle.c_lexer.specs.Bytes.{is_letter, is_word_byte, is_octal}
 use Rattle.c_lexer.specs.Lookup.{lookup}
 use Rattle.c_lexer.specs.Words.{word_text, word_of}
 use Rattle.c_lexer.specs.Marks.{mark_text, marks}
-use Rattle.c_lexer.specs.Numbers.{IsPrefix, IsConstant, IsNumber}
+use Rattle.c_lexer.specs.Numbers.{IsPrefix, IsConstant}
 use Rattle.c_lexer.specs.Characters.{IsCharacter, IsLiteral}
 use Rattle.c_lexer.specs.ReadNumber.{number_of}
 use Rattle.c_lexer.specs.ReadCharacters.{character_of, literal_of}
 use Rattle.c_lexer.specs.Parts.{IsName, IsToken}
-use Rattle.c_lexer.proofs.Cases.{either, neq-eqb, none_found}
+use Rattle.c_lexer.proofs.Cases.{neq-eqb}
 use Rattle.c_lexer.proofs.WordLaws.{word_sound, word_full}
 use Rattle.c_lexer.proofs.NumberLaws.{number_full}
 use Rattle.c_lexer.proofs.CharacterLaws.{character_full, literal_full}
@@ -210,9 +210,13 @@ name_unquoted quote (a ∷ b ∷ text) mark zero letter all some =
 name_tag : (text : List ℕ) → IsName text → tag text ≡ 1
 unfolding tag
 name_tag text n =
-    rw (letter_no_digit (slice_index text 0) (is_ascii_digit (slice_index text 0)) n.first refl,
-      name_unquoted 39 text refl refl n.first n.each (λ (e : 39 ≡ 0). omega (arith, e)), name_unquoted 34 text refl refl n.first n.each (λ (e : 34 ≡ 0). omega (arith, e)),
-      n.first, no_word text (word_of text) refl n.no_word) refl
+    rw (
+      letter_no_digit (slice_index text 0) (is_ascii_digit (slice_index text 0)) n.first refl,
+      name_unquoted 39 text refl refl n.first n.each (λ (e : 39 ≡ 0). omega (arith, e)),
+      name_unquoted 34 text refl refl n.first n.each (λ (e : 34 ≡ 0). omega (arith, e)),
+      n.first,
+      no_word text (word_of text) refl n.no_word,
+    ) refl
 
 digit_tag : (text : List ℕ) → is_ascii_digit (slice_index text 0) ≡ true → tag text ≡ 2
 unfolding tag

@@ -125,7 +125,12 @@ fn tokens(rt: HostRuntime) -> Result<(), Fail> {
     assert!(rt; matches!(token_of(alloc, b"while")?, Some(Body::Word(Word::While))));
     assert!(rt; matches!(token_of(alloc, b"whiles")?, Some(Body::Name(_))));
     assert!(rt; matches!(token_of(alloc, b"L\"a\"")?, Some(Body::Literal(_, true))));
-    assert!(rt; matches!(token_of(alloc, b"<<=")?, Some(Body::Mark(Punct::ShiftLeftAssign))));
+    assert!(rt;
+        matches!(
+            token_of(alloc, b"<<=")?,
+            Some(Body::Mark(Punct::ShiftLeftAssign))
+        )
+    );
     assert!(rt; token_of(alloc, b"double")?.is_none());
     assert!(rt; token_of(alloc, b"a b")?.is_none());
     Ok(())
