@@ -1,0 +1,17 @@
+pub mod Values
+pub mod Tables
+pub mod WordLaws
+pub mod Cases
+pub mod Runs
+pub mod NumberLaws
+pub mod ItemLaws
+pub mod UnitLaws
+pub mod CharacterLaws
+pub mod MarkLaws
+pub mod CommentLaws
+pub mod DirectiveLaws
+pub mod PragmaLaws
+pub mod ShapeLaws
+pub mod TokenLaws
+pub mod SpellingLaws
+pub mod Examples

@@ -1,0 +1,62 @@
+-- The run of bytes of one class at the front.
+use Rattle.std.proofs.Common.{◌≡◌, ℕ, zero, suc, ◌+◌, ◌≤◌, List, [], ◌∷◌, ◌++◌, Bool, true, false, ◌==◌, ◌&&◌, cond, length, take, drop, refl, ap, arith}
+use Rattle.std.proofs.Math.Numerals.{one-add}
+use Rattle.std.proofs.lemmas.Bool.{and_parts, and_from, eqb-true, eqb-false, eq-eqb}
+use Rattle.std.specs.List.{prefix_len, list_all}
+use Rattle.c_lexer.proofs.Cases.{neq-eqb}
+
+run_step : (p : ℕ → Bool) (x : ℕ) (xs : List ℕ) (b : Bool) → p x ≡ b → list_all p (take (prefix_len p xs) xs) ≡ true → list_all p (take (cond b (1 + prefix_len p xs) 0) (x ∷ xs)) ≡ true
+run_step p x xs true is more = rw one-add (and_from _ _ is more)
+run_step p x xs false is more = refl
+
+-- each byte of the run is of the class
+pub run_all : (p : ℕ → Bool) (xs : List ℕ) → list_all p (take (prefix_len p xs) xs) ≡ true
+run_all p [] = refl
+run_all p (x ∷ xs) = run_step p x xs (p x) refl (run_all p xs)
+
+-- a run that is followed by none of the class
+pub run_whole : (p : ℕ → Bool) (ds rest : List ℕ) → list_all p ds ≡ true → prefix_len p rest ≡ 0 → prefix_len p (ds ++ rest) ≡ length ds
+run_whole p [] rest all ends = ends
+run_whole p (d ∷ ds) rest all ends =
+    let parts = and_parts (p d) (list_all p ds) all in
+    rw (parts.0, run_whole p ds rest parts.1 ends, one-add) refl
+
+part_step : (p : ℕ → Bool) (x : ℕ) (xs : List ℕ) (k : ℕ) (b : Bool) → p x ≡ b → suc k ≤ cond b (1 + prefix_len p xs) 0 → (k ≤ prefix_len p xs → list_all p (take k xs) ≡ true) → list_all p (take (suc k) (x ∷ xs)) ≡ true
+part_step p x xs k true is le more = and_from _ _ is (more (omega arith))
+part_step p x xs k false is le more = absurd (omega arith)
+
+-- each part of the run is of the class
+pub run_part : (p : ℕ → Bool) (xs : List ℕ) (k : ℕ) → k ≤ prefix_len p xs → list_all p (take k xs) ≡ true
+run_part p xs zero le = refl
+run_part p [] (suc k) le = refl
+run_part p (x ∷ xs) (suc k) le = part_step p x xs k (p x) refl le (run_part p xs k)
+
+ends_step : (p : ℕ → Bool) (x : ℕ) (xs : List ℕ) (b : Bool) → p x ≡ b → prefix_len p (drop (prefix_len p xs) xs) ≡ 0 → prefix_len p (drop (cond b (1 + prefix_len p xs) 0) (x ∷ xs)) ≡ 0
+ends_step p x xs true is more = rw one-add more
+ends_step p x xs false is more = rw is refl
+
+-- none of the class follows the run
+pub run_ends : (p : ℕ → Bool) (xs : List ℕ) → prefix_len p (drop (prefix_len p xs) xs) ≡ 0
+run_ends p [] = refl
+run_ends p (x ∷ xs) = ends_step p x xs (p x) refl (run_ends p xs)
+
+-- a run is as long as what of it is known
+pub run_least : (p : ℕ → Bool) (ds rest : List ℕ) → list_all p ds ≡ true → length ds ≤ prefix_len p (ds ++ rest)
+run_least p [] rest all = omega arith
+run_least p (d ∷ ds) rest all =
+    let parts = and_parts (p d) (list_all p ds) all in
+    let more = run_least p ds rest parts.1 in
+    rw parts.0 (omega arith)
+
+eq_suc : (a b : ℕ) (t : Bool) → (a == b) ≡ t → (suc a == suc b) ≡ t
+eq_suc a b true h = eq-eqb (suc a) (suc b) (ap suc (eqb-true a b h))
+eq_suc a b false h = neq-eqb (suc a) (suc b) (λ (e : suc a ≡ suc b). eqb-false a b h (omega arith))
+
+all_step : (p : ℕ → Bool) (x : ℕ) (xs : List ℕ) (b : Bool) → p x ≡ b → (prefix_len p xs == length xs) ≡ list_all p xs → (cond b (1 + prefix_len p xs) 0 == length (x ∷ xs)) ≡ (b && list_all p xs)
+all_step p x xs true is more = rw one-add (eq_suc (prefix_len p xs) (length xs) (list_all p xs) more)
+all_step p x xs false is more = neq-eqb 0 (suc (length xs)) (λ (e : 0 ≡ suc (length xs)). omega arith)
+
+-- all are of the class where the run is whole
+pub run_is_all : (p : ℕ → Bool) (xs : List ℕ) → (prefix_len p xs == length xs) ≡ list_all p xs
+run_is_all p [] = refl
+run_is_all p (x ∷ xs) = all_step p x xs (p x) refl (run_is_all p xs)

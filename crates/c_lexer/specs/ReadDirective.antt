@@ -1,0 +1,86 @@
+-- How a directive line is read.
+use Rattle.std.specs.Prelude.{ℕ, zero, suc, slice_index, Result, Ok, Err, ◌==◌, ◌&&◌, ◌||◌, not, Bool, true, false, List, [], ◌∷◌, length, take, drop, codes, Option, Some, None, if◌then◌else◌, nat_eq}
+use Rattle.std.specs.List.{list_all, prefix_len}
+use Rattle.std.specs.Cmp.Lexicographic.{pointwise}
+use Rattle.c_lexer.specs.declared.bytes.Class.TheVariants as class
+use Rattle.c_lexer.specs.Classes.{is_in}
+use Rattle.c_lexer.specs.Directives.{is_header}
+use Rattle.c_lexer.specs.ReadComment.{past_close, past_quote}
+
+-- what follows the word
+abbrev pub stripped : List ℕ → List ℕ → Option (List ℕ)
+stripped word text = if pointwise nat_eq (take (length word) text) word then Some (drop (length word) text) else None
+
+-- what is said of what follows, if anything does
+abbrev pub on : Option (List ℕ) → (List ℕ → Bool) → Bool
+on None test = false
+on (Some text) test = test text
+
+-- what follows spaces and tabs
+abbrev pub unblank : List ℕ → List ℕ
+unblank text = drop (prefix_len (is_in class.Blank) text) text
+
+abbrev pub all_blank : List ℕ → Bool
+all_blank = list_all (is_in class.Blank)
+
+abbrev pub begins_blank : List ℕ → Bool
+begins_blank text = not (prefix_len (is_in class.Blank) text == 0)
+
+abbrev pub ends_include : List ℕ → Bool
+ends_include rest = is_header (take (prefix_len (is_in class.Solid) rest) rest) && all_blank (drop (prefix_len (is_in class.Solid) rest) rest)
+
+unfoldable pub is_include : List ℕ → Bool
+is_include text = on (stripped (codes "include") text) (λ after. ends_include (unblank after))
+
+abbrev pub ends_define : List ℕ → Bool
+ends_define after = begins_blank after && on (stripped (codes "1") (unblank after)) all_blank
+
+abbrev pub names_extension : List ℕ → Bool
+names_extension after = begins_blank after && on (stripped (codes "__STDC_WANT_LIB_EXT1__") (unblank after)) ends_define
+
+unfoldable pub is_define : List ℕ → Bool
+is_define text = on (stripped (codes "define") text) names_extension
+
+abbrev pub ends_marker : List ℕ → Bool
+ends_marker after = on (past_quote 34 false after) (list_all (is_in class.Spaced))
+
+unfoldable pub is_marker : List ℕ → Bool
+is_marker text =
+    not (prefix_len (is_in class.Decimal) text == 0)
+    && on (stripped (codes "\"") (unblank (drop (prefix_len (is_in class.Decimal) text) text))) ends_marker
+
+-- what follows the comment, the text between quotes or the byte at the front, or whether a comment goes on from here
+abbrev pub behind_close : Option (List ℕ) → Result (List ℕ) Bool
+behind_close None = Err true
+behind_close (Some after) = Ok after
+
+abbrev pub behind_quote : Option (List ℕ) → Result (List ℕ) Bool
+behind_quote None = Err false
+behind_quote (Some after) = Ok after
+
+unfoldable pub past_piece : ℕ → List ℕ → Result (List ℕ) Bool
+past_piece byte after =
+    if byte == 47 && slice_index after 0 == 47 then Err false
+    else (if byte == 47 && slice_index after 0 == 42 then behind_close (past_close (drop 1 after))
+    else (if byte == 34 || byte == 39 then behind_quote (past_quote byte false after)
+    else Ok after))
+
+abbrev pub by_piece : (List ℕ → Bool) → Result (List ℕ) Bool → Bool
+by_piece go (Ok after) = go after
+by_piece go (Err open_end) = open_end
+
+-- the number is no less than the bytes
+abbrev pub goes_on_from : ℕ → List ℕ → Bool
+goes_on_from zero bytes = false
+goes_on_from (suc n) [] = false
+goes_on_from (suc n) (byte ∷ bytes) = by_piece (goes_on_from n) (past_piece byte bytes)
+
+-- a comment begins in the bytes and goes on behind them
+unfoldable pub goes_on : List ℕ → Bool
+goes_on bytes = goes_on_from (length bytes) bytes
+
+abbrev pub ends_pragma : List ℕ → Bool
+ends_pragma rest = prefix_len (is_in class.Word) rest == 0 && list_all (is_in class.Line) rest && not (goes_on rest)
+
+unfoldable pub is_pragma : List ℕ → Bool
+is_pragma text = on (stripped (codes "pragma") text) ends_pragma

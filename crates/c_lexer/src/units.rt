@@ -1,0 +1,41 @@
+ghost use Rattle.std.specs.Prelude.{◌≡◌, length};
+ghost use Rattle.std.specs.List.{slice_get};
+
+use std::marker::Model;
+
+/// The units of a string literal without the null at its end (6.4.5): values of `char` from -128 to 127 in a narrow
+/// literal, of `int` in a wide one. Contracts see the list of them.
+#[derive(Debug, Drop)]
+pub struct Units {
+    units: Vec<i64>,
+}
+
+impl Model for Units {
+    ghost use Rattle.std.specs.Prelude.{ℤ, List};
+
+    ghost Value = { List ℤ };
+
+    ghost view = { λ u. u.units.items };
+}
+
+impl Units {
+    pub(crate) fn new(units: Vec<i64>) -> Units
+        ensures { result ≡ units.items }
+    {
+        Units { units }
+    }
+
+    /// How many units there are.
+    pub fn len(&self) -> usize
+        ensures { result ≡ length self.now }
+    {
+        self.units.len()
+    }
+
+    /// The unit at an index, if there are more units than that.
+    pub fn get(&self, index: usize) -> Option<i64>
+        ensures { result ≡ slice_get self.now index }
+    {
+        self.units.get(index).copied()
+    }
+}
