@@ -1,11 +1,10 @@
-ghost use Rattle.std.specs.Prelude.{◌≡◌, ◌↔◌, map, option_copied, IsTrue};
-ghost use Rattle.std.specs.List.{list_any};
-ghost use Rattle.std.specs.Str.{bytes_eq};
+ghost use Rattle.std.specs.Prelude.{◌≡◌, ◌↔◌, option_copied, IsTrue};
 ghost use Rattle.c_lexer.specs.Directives.{is_header, IsInclude, IsDefine, IsMarker};
 ghost use Rattle.c_lexer.specs.ReadDirective as spec;
 
 use crate::bytes::{Class, all_in, past, run_len};
 use crate::comment::find_quote;
+use crate::table::contains;
 
 const HEADERS: [&[u8]; 9] = [
     b"<stddef.h>",
@@ -24,18 +23,6 @@ pub(crate) fn strip<'a>(text: &'a [u8], word: &[u8]) -> Option<&'a [u8]>
     ensures { option_copied result ≡ spec.stripped word.now text.now }
 {
     text.strip_prefix(word)
-}
-
-fn contains(mut words: &[&[u8]], text: &[u8]) -> bool
-    ensures { result ≡ list_any (λ word. bytes_eq word text.now) (map (λ word. word.now) words.entry.now) }
-{
-    while let [word, rest @ ..] = words {
-        if *word == text {
-            return true;
-        }
-        words = rest;
-    }
-    false
 }
 
 #[tactic(auto, unfolding(crate::specs::Directives::is_header))]

@@ -12,6 +12,7 @@ mod place;
 mod pragma;
 mod punct;
 mod spelling;
+mod table;
 mod token;
 mod tokens;
 mod units;

@@ -1,12 +1,12 @@
-ghost use Rattle.std.specs.Prelude.{◌≡◌, ℕ, ◌≤◌, ◌<◌, ◌^◌, length, map, IfSome, IfNone};
+ghost use Rattle.std.specs.Prelude.{◌≡◌, ◌≤◌, ◌<◌, ◌^◌, IfSome, IfNone};
 ghost use Rattle.std.specs.Char.{digit_value};
-ghost use Rattle.c_lexer.specs.Classes.{is_in};
 ghost use Rattle.c_lexer.specs.Lookup.{lookup};
 ghost use Rattle.c_lexer.specs.Numbers as numbers;
 ghost use Rattle.c_lexer.specs.ReadNumber as spec;
 ghost use Rattle.c_lexer.specs.declared.number.Number.{Number};
 
 use crate::bytes::{Class, run_len};
+use crate::table::lookup;
 
 /// An integer constant (6.4.4.1): its value, whether it is written as a decimal constant, whether its suffix has a
 /// `u`, and how many `l` its suffix has, from 0 to 2.
@@ -84,18 +84,6 @@ const SUFFIXES: [(&[u8], (bool, u8)); 23] = [
     (b"LLu", (true, 2)),
     (b"LLU", (true, 2)),
 ];
-
-fn lookup(mut table: &[(&[u8], (bool, u8))], text: &[u8]) -> Option<(bool, u8)>
-    ensures { result ≡ lookup (map (λ row. (row.0.now, row.1)) table.entry.now) text.now }
-{
-    while let [row, rest @ ..] = table {
-        if row.0 == text {
-            return Some(row.1);
-        }
-        table = rest;
-    }
-    None
-}
 
 /// Whether the suffix has a `u`, and how many `l`, if it is one.
 fn suffix_of(text: &[u8]) -> Option<(bool, u8)>

@@ -1,9 +1,8 @@
-ghost use Rattle.std.specs.Prelude.{◌≡◌, IfSome, IfNone, map};
-ghost use Rattle.std.specs.List.{list_any};
-ghost use Rattle.std.specs.Str.{bytes_eq};
-ghost use Rattle.c_lexer.specs.Lookup.{lookup};
+ghost use Rattle.std.specs.Prelude.{◌≡◌, IfSome, IfNone};
 ghost use Rattle.c_lexer.specs.Words as spec;
 ghost use Rattle.c_lexer.specs.declared.word.Word.{Word};
+
+use crate::table::{contains, lookup};
 
 /// The words of the language (6.4.1) that are taken.
 #[derive(Clone, Copy, Debug, PartialEq, Eq)]
@@ -130,36 +129,12 @@ const OUTSIDE: [&[u8]; 10] = [
     b"_Thread_local",
 ];
 
-fn lookup(mut table: &[(&[u8], Word)], text: &[u8]) -> Option<Word>
-    ensures { result ≡ lookup (map (λ row. (row.0.now, row.1)) table.entry.now) text.now }
-{
-    while let [row, rest @ ..] = table {
-        if row.0 == text {
-            return Some(row.1);
-        }
-        table = rest;
-    }
-    None
-}
-
 /// The word of the language that is spelled so (6.4.1).
 pub(crate) fn word_of(text: &[u8]) -> Option<Word>
     ensures found { IfSome result (λ word. text.now ≡ spec.word_text word) }
     ensures none { IfNone result ((word : Word) → text.now ≡ spec.word_text word → ⊥) }
 {
     lookup(&WORDS, text)
-}
-
-fn contains(mut words: &[&[u8]], text: &[u8]) -> bool
-    ensures { result ≡ list_any (λ word. bytes_eq word text.now) (map (λ word. word.now) words.entry.now) }
-{
-    while let [word, rest @ ..] = words {
-        if *word == text {
-            return true;
-        }
-        words = rest;
-    }
-    false
 }
 
 /// Whether this spells a word of the language that is not taken (6.4.1).
