@@ -1,12 +1,14 @@
-ghost use Rattle.std.specs.Prelude.{◌<◌, ◌≤◌, IfOk};
-ghost use Rattle.c_types.specs.Types.{count_of};
+ghost use Rattle.std.specs.Prelude.{◌≡◌, ◌<◌, ◌≤◌, IfOk};
+ghost use Rattle.c_types.specs.Types.{CompoundParts, count_of};
+ghost use Rattle.c_types.specs.CType.{type_of};
+ghost use Rattle.c_types.specs.Compounds.{IsIncomplete, with_body, number_in};
 
 use super::*;
 use critical_table::Name;
 use std::alloc::Global;
 use std::test::Fail;
 
-// The size, the alignment and the places of a structure or union of three members.
+// The size, the alignment and the places of a new structure or union of three members.
 fn laid_out(
     table: &mut TypeTable,
     alloc: Global,
@@ -22,27 +24,39 @@ fn laid_out(
     ensures id { IfOk result (λ r. r.0.0 < count_of table.new) }
 {
     let id = table.compound(is_union)?;
+    let layout = completed(table, alloc, id, x, y, z)?;
+    Ok((id, layout))
+}
+
+// The size, the alignment and the places of a structure or union that gets three members.
+fn completed(
+    table: &mut TypeTable,
+    alloc: Global,
+    id: TypeId,
+    x: TypeId,
+    y: TypeId,
+    z: TypeId,
+) -> Result<[Option<u32>; 5], Fail>
+    requires id { id.0 < count_of table.old }
+    requires incomplete { IsIncomplete table.old (type_of table.old id) }
+    requires x { x.0 < count_of table.old }
+    requires y { y.0 < count_of table.old }
+    requires z { z.0 < count_of table.old }
+    ensures changed { IfOk result (λ _. (parts : CompoundParts) × (table.new ≡ with_body table.old (number_in (type_of table.old id)) parts)) }
+{
     let names = [
         Name::new(alloc, b"x")?,
         Name::new(alloc, b"y")?,
         Name::new(alloc, b"z")?,
     ];
     table.complete(id, &names, &[x, y, z])?;
-    let places = [
+    Ok([
+        table.size_of(id),
+        table.align_of(id),
         place(table, id, &names[0]),
         place(table, id, &names[1]),
         place(table, id, &names[2]),
-    ];
-    Ok((
-        id,
-        [
-            table.size_of(id),
-            table.align_of(id),
-            places[0],
-            places[1],
-            places[2],
-        ],
-    ))
+    ])
 }
 
 fn place(table: &TypeTable, id: TypeId, name: &Name) -> Option<u32>
@@ -101,6 +115,53 @@ fn lays_out_arrays_like_gcc(rt: HostRuntime) -> Result<(), Fail> {
     assert_eq!(rt; layout, [Some(4), Some(2), Some(0), Some(0), Some(0)]);
     let (_, layout) = laid_out(t, rt.alloc(), true, pointer, five, char)?;
     assert_eq!(rt; layout, [Some(24), Some(8), Some(0), Some(0), Some(0)]);
+    Ok(())
+}
+
+// struct node { struct node *x; int y; struct node *z; };
+fn refers_to_itself(
+    table: &mut TypeTable,
+    alloc: Global,
+    int: TypeId,
+) -> Result<[Option<u32>; 5], Fail>
+    requires { int.0 < count_of table.old }
+    ensures { IfOk result (λ _. count_of table.old ≤ count_of table.new) }
+{
+    let node = table.compound(false)?;
+    let to_node = table.pointer(node)?;
+    completed(table, alloc, node, to_node, int, to_node)
+}
+
+// struct left { struct right *x; int y; struct left *z; }; struct right { struct left x; int y; struct right *z; };
+fn refer_to_each_other(
+    table: &mut TypeTable,
+    alloc: Global,
+    int: TypeId,
+) -> Result<[[Option<u32>; 5]; 2], Fail>
+    requires { int.0 < count_of table.old }
+{
+    let left = table.compound(false)?;
+    let right = table.compound(false)?;
+    let to_left = table.pointer(left)?;
+    let to_right = table.pointer(right)?;
+    let first = completed(table, alloc, left, to_right, int, to_left)?;
+    let second = completed(table, alloc, right, left, int, to_right)?;
+    Ok([first, second])
+}
+
+// Expected are the layouts that gcc 12.2 gives with `struct { long low, high; }` for each pointer, which has 16 bytes here.
+#[test]
+fn lays_out_structures_that_refer_to_themselves_and_each_other(
+    rt: HostRuntime,
+) -> Result<(), Fail> {
+    let mut table = TypeTable::new(rt.alloc())?;
+    let t = &mut table;
+    let int = t.basic(Basic::Int);
+    let node = refers_to_itself(t, rt.alloc(), int)?;
+    assert_eq!(rt; node, [Some(40), Some(8), Some(0), Some(16), Some(24)]);
+    let [left, right] = refer_to_each_other(t, rt.alloc(), int)?;
+    assert_eq!(rt; left, [Some(40), Some(8), Some(0), Some(16), Some(24)]);
+    assert_eq!(rt; right, [Some(64), Some(8), Some(0), Some(40), Some(48)]);
     Ok(())
 }
 
