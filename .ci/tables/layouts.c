@@ -24,10 +24,13 @@ ROW(union, odd_array, char x[3], short y, char z)
 ROW(union, pointer_or_ints, pointer x, int y[5], char z)
 ROW(struct, structure_between, char x, struct long_first y, short z)
 ROW(struct, union_between, char x, union numbers y, char z)
+ROW(struct, refers, pointer x, int y, pointer z)
+ROW(struct, refers_with, struct refers x, int y, pointer z)
 int main(void)
 {
     print_char_int_pointer(); print_three_chars(); print_short_between(); print_long_first(); print_long_between();
     print_array_first(); print_pointer_first(); print_ints_between(); print_numbers(); print_odd_array();
     print_pointer_or_ints(); print_structure_between(); print_union_between();
+    print_refers(); print_refers_with();
     return 0;
 }
