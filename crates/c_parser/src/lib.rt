@@ -1,0 +1,24 @@
+//! The syntax tree of a unit of C (6.5 to 6.9), the tokens that spell it, and which trees are well-formed.
+#![tactic(auto)]
+
+pub mod declaration;
+pub mod declarator;
+pub mod expression;
+pub mod initializer;
+pub mod operator;
+pub mod specifier;
+pub mod statement;
+pub mod type_name;
+pub mod unit;
+
+pub use declaration::{Assert, Declaration, InitDeclarator};
+pub use declarator::{Declarator, Parameter};
+pub use expression::{Constant, Expr, Literals};
+pub use initializer::{Initializer, Item};
+pub use operator::{Access, Arithmetic, Comparison, Infix, Measure, Postfix, Prefix};
+pub use specifier::{
+    BasicWord, CompoundWord, Enumerator, MemberDeclaration, Qualifier, Specifier, Storage, Tag,
+};
+pub use statement::{BlockItem, ForInit, Statement, SwitchItem};
+pub use type_name::TypeName;
+pub use unit::{External, Function, Tree};
