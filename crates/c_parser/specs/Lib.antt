@@ -1,0 +1,17 @@
+pub mod Tree
+pub mod Body
+pub mod View
+pub mod ViewBody
+pub mod Tokens
+pub mod Operators
+pub mod Spelling
+pub mod SpellingUnit
+pub mod Levels
+pub mod Height
+pub mod HeightUnit
+pub mod Scopes
+pub mod ScopesUnit
+pub mod WellFormed
+pub mod WellFormedUnit
+pub mod Begin
+pub mod Parsing

@@ -7,6 +7,7 @@ pub mod expression;
 pub mod initializer;
 pub mod operator;
 pub mod specifier;
+pub mod spelled;
 pub mod statement;
 pub mod type_name;
 pub mod unit;
@@ -19,6 +20,7 @@ pub use operator::{Access, Arithmetic, Comparison, Infix, Measure, Postfix, Pref
 pub use specifier::{
     BasicWord, CompoundWord, Enumerator, MemberDeclaration, Qualifier, Specifier, Storage, Tag,
 };
+pub use spelled::Spelled;
 pub use statement::{BlockItem, ForInit, Statement, SwitchItem};
 pub use type_name::TypeName;
 pub use unit::{External, Function, Tree};
