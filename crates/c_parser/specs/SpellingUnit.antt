@@ -56,24 +56,24 @@ abbrev pub spell_for_init : ForInit → List Spelled
 spell_for_init (Begins declaration) = spell_declaration declaration
 spell_for_init (Evaluates expr) = spell_optional expr ++ mark p.Semicolon ∷ []
 
+-- the controlling expression of a statement (6.8.4, 6.8.5)
+abbrev pub spell_controlling : Expr → List Spelled
+spell_controlling test = mark p.OpenParen ∷ spell test ++ mark p.CloseParen ∷ []
+
 abbrev mutual
   -- 6.8
   pub spell_statement : Statement → List Spelled
   spell_statement (Block items) = mark p.OpenBrace ∷ spell_block_items items ++ mark p.CloseBrace ∷ []
   spell_statement (ExprStmt expr) = spell_optional expr ++ mark p.Semicolon ∷ []
-  spell_statement (If pos test then) =
-      word_at pos w.If ∷ mark p.OpenParen ∷ spell test ++ mark p.CloseParen ∷ spell_statement then
+  spell_statement (If pos test then) = word_at pos w.If ∷ spell_controlling test ++ spell_statement then
   spell_statement (IfElse pos test then else) =
-      word_at pos w.If ∷ mark p.OpenParen ∷ spell test ++ mark p.CloseParen ∷ spell_statement then
-      ++ word w.Else ∷ spell_statement else
+      word_at pos w.If ∷ spell_controlling test ++ spell_statement then ++ word w.Else ∷ spell_statement else
   spell_statement (Switch pos test items) =
-      word_at pos w.Switch ∷ mark p.OpenParen ∷ spell test
-      ++ mark p.CloseParen ∷ mark p.OpenBrace ∷ spell_switch_items items ++ mark p.CloseBrace ∷ []
-  spell_statement (While pos test turn) =
-      word_at pos w.While ∷ mark p.OpenParen ∷ spell test ++ mark p.CloseParen ∷ spell_statement turn
+      word_at pos w.Switch ∷ spell_controlling test
+      ++ mark p.OpenBrace ∷ spell_switch_items items ++ mark p.CloseBrace ∷ []
+  spell_statement (While pos test turn) = word_at pos w.While ∷ spell_controlling test ++ spell_statement turn
   spell_statement (Do pos turn test) =
-      word_at pos w.Do ∷ spell_statement turn
-      ++ word w.While ∷ mark p.OpenParen ∷ spell test ++ mark p.CloseParen ∷ mark p.Semicolon ∷ []
+      word_at pos w.Do ∷ spell_statement turn ++ word w.While ∷ spell_controlling test ++ mark p.Semicolon ∷ []
   spell_statement (For pos init test step turn) =
       word_at pos w.For ∷ mark p.OpenParen ∷ spell_for_init init
       ++ spell_optional test ++ mark p.Semicolon ∷ spell_optional step ++ mark p.CloseParen ∷ spell_statement turn

@@ -1,5 +1,5 @@
 -- Lists of spelled tokens, and which tokens of a unit they are.
-use Rattle.std.specs.Prelude.{◌≡◌, ℕ, ℤ, Bool, true, false, List, [], ◌∷◌, ◌++◌, Option, Some, None}
+use Rattle.std.specs.Prelude.{◌≡◌, ℕ, ℤ, Bool, true, false, List, [], ◌∷◌, ◌++◌, map, Option, Some, None}
 use Rattle.std.specs.List.{flat_map}
 use Rattle.critical_table.specs.declared.pos.Pos.{Pos}
 use Rattle.c_lexer.specs.declared.token.Token.{Token}
@@ -57,7 +57,7 @@ ellipsis_if false = []
 abbrev pub spell_pieces : Option Pos → Bool → List (List ℤ) → List Spelled
 spell_pieces place wide [] = []
 spell_pieces place wide (units ∷ rest) =
-    record { body = body.Literal units wide; place = place } ∷ spell_pieces None wide rest
+    record { body = body.Literal units wide; place = place } ∷ map (λ more. bare (body.Literal more wide)) rest
 
 -- ---- tokens of a unit
 

@@ -1,13 +1,15 @@
 -- The tree of what the program holds: expressions, declarators, specifiers and type names.
-use Rattle.std.specs.Prelude.{List, [], ◌∷◌, map}
+use Rattle.std.specs.Prelude.{List, [], ◌∷◌, map, Option, Some, None, Box}
+use Rattle.std.specs.Global.{Global}
 use Rattle.c_parser.specs.declared.expression.Literals as code
 use Rattle.c_parser.specs.declared.expression.Expr as e
 use Rattle.c_parser.specs.declared.declarator.Declarator as d
 use Rattle.c_parser.specs.declared.declarator.Parameter as p
 use Rattle.c_parser.specs.declared.specifier.Specifier as s
 use Rattle.c_parser.specs.declared.specifier.MemberDeclaration as m
+use Rattle.c_parser.specs.declared.specifier.Enumerator as n
 use Rattle.c_parser.specs.declared.type_name.TypeName as t
-use Rattle.c_parser.specs.Tree.{Literals, Expr, Const, Id, Text, Paren, Index, Call, Member, Postfix', Prefix', Measure', Cast, Infix', Cond, Exprs, NoExpr, MoreExprs, Maybe, Without, With, TypeName, Type', Specifier, Storage', Qualifier', Inline, BasicWord', CompoundTag, Compound, EnumTag, Enum, TypedefName, Specifiers, NoSpecifier, MoreSpecifiers, MemberDeclaration, Declares, Members, NoMember, MoreMembers, Declarators, NoDeclarator, MoreDeclarators, Enumerates, Enumerators, NoEnumerator, MoreEnumerators, Declarator, Omitted, Name, DParen, PointerTo, ArrayOf, FunctionOf, Parameter, Param, Parameters, NoParameter, MoreParameters}
+use Rattle.c_parser.specs.Tree.{ArrayOf, BasicWord', Call, Cast, Compound, CompoundTag, Cond, Const, DParen, Declarator, Declarators, Declares, Enum, EnumTag, Enumerates, Enumerator, Enumerators, Expr, Exprs, FunctionOf, Id, Index, Infix', Inline, Literals, Maybe, Measure', Member, MemberDeclaration, Members, MoreDeclarators, MoreEnumerators, MoreExprs, MoreMembers, MoreParameters, MoreSpecifiers, Name, NoDeclarator, NoEnumerator, NoExpr, NoMember, NoParameter, NoSpecifier, Omitted, Param, Parameter, Parameters, Paren, PointerTo, Postfix', Prefix', Qualifier', Specifier, Specifiers, Storage', Text, Type', TypeName, TypedefName, With, Without}
 
 abbrev pub literals_of : code.Literals → Literals
 literals_of text = record { pieces = text.units.items; wide = text.wide }
@@ -83,6 +85,18 @@ abbrev mutual
 
 -- ---- lists of parts
 
+abbrev pub enumerators : List Enumerator → Enumerators
+enumerators [] = NoEnumerator
+enumerators (first ∷ rest) = MoreEnumerators first (enumerators rest)
+
+abbrev pub members : List MemberDeclaration → Members
+members [] = NoMember
+members (first ∷ rest) = MoreMembers first (members rest)
+
+abbrev pub parameters : List Parameter → Parameters
+parameters [] = NoParameter
+parameters (first ∷ rest) = MoreParameters first (parameters rest)
+
 abbrev pub exprs : List Expr → Exprs
 exprs [] = NoExpr
 exprs (first ∷ rest) = MoreExprs first (exprs rest)
@@ -107,3 +121,10 @@ parameter_of parameter = Param (specifiers_of parameter.specifiers.items) (decla
 abbrev pub member_of : m.MemberDeclaration → MemberDeclaration
 member_of member =
     Declares (specifiers_of member.specifiers.items) (declarators (map declarator_of member.declarators.items))
+
+abbrev pub value_of : Option (Box e.Expr Global) → Maybe
+value_of None = Without
+value_of (Some value) = With (expr_of value.value)
+
+abbrev pub enumerator_of : n.Enumerator → Enumerator
+enumerator_of one = Enumerates one.pos one.name (value_of one.value)

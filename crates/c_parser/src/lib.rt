@@ -6,8 +6,12 @@ pub mod declarator;
 pub mod expression;
 pub mod initializer;
 pub mod operator;
+mod output;
 pub mod specifier;
+mod spell_expression;
+mod spell_unit;
 pub mod spelled;
+mod words;
 pub mod statement;
 pub mod type_name;
 pub mod unit;
@@ -20,6 +24,7 @@ pub use operator::{Access, Arithmetic, Comparison, Infix, Measure, Postfix, Pref
 pub use specifier::{
     BasicWord, CompoundWord, Enumerator, MemberDeclaration, Qualifier, Specifier, Storage, Tag,
 };
+pub use spell_unit::spelling;
 pub use spelled::Spelled;
 pub use statement::{BlockItem, ForInit, Statement, SwitchItem};
 pub use type_name::TypeName;
