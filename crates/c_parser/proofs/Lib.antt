@@ -1,3 +1,6 @@
+pub mod EmptyLaws
+pub mod FirstLaws
+pub mod HeightLaws
 pub mod Parts
 pub mod PartsUnit
 pub mod Rows

@@ -15,3 +15,4 @@ pub mod WellFormed
 pub mod WellFormedUnit
 pub mod Begin
 pub mod Parsing
+pub mod First

@@ -35,8 +35,8 @@ pub record RefusedAtToken (stream : Stream) (why : Refusal) (pos : Pos) : Type 0
   pub begins : BeginsTree greatest_height before
   pub first : BeginsTree greatest_height (before ++ token ∷ []) → ⊥
   pub reason :
-    ((why ≡ Deep) × ((most : ℕ) × BeginsTree most (before ++ token ∷ [])))
-    ⊎ ((why ≡ Syntax) × ((most : ℕ) → BeginsTree most (before ++ token ∷ []) → ⊥))
+      ((why ≡ Deep) × ((most : ℕ) × BeginsTree most (before ++ token ∷ [])))
+      ⊎ ((why ≡ Syntax) × ((most : ℕ) → BeginsTree most (before ++ token ∷ []) → ⊥))
 
 -- or at the place behind its last byte: all tokens begin a syntactic unit, and are none
 pub record RefusedAtEnd (stream : Stream) (why : Refusal) (pos : Pos) : Type 0 where

@@ -27,22 +27,22 @@ is_type scope x = is_type_from false scope x
 -- the typedef names that stand around each unit
 abbrev pub predeclared : Scope
 predeclared = map (λ x. record { name = x; names_type = true }) (
-  codes "size_t"
-  ∷ codes "rsize_t"
-  ∷ codes "ptrdiff_t"
-  ∷ codes "wchar_t"
-  ∷ codes "errno_t"
-  ∷ codes "constraint_handler_t"
-  ∷ codes "bool"
-  ∷ codes "int8_t"
-  ∷ codes "int16_t"
-  ∷ codes "int32_t"
-  ∷ codes "int64_t"
-  ∷ codes "uint8_t"
-  ∷ codes "uint16_t"
-  ∷ codes "uint32_t"
-  ∷ codes "uint64_t" ∷ []
-)
+    codes "size_t"
+    ∷ codes "rsize_t"
+    ∷ codes "ptrdiff_t"
+    ∷ codes "wchar_t"
+    ∷ codes "errno_t"
+    ∷ codes "constraint_handler_t"
+    ∷ codes "bool"
+    ∷ codes "int8_t"
+    ∷ codes "int16_t"
+    ∷ codes "int32_t"
+    ∷ codes "int64_t"
+    ∷ codes "uint8_t"
+    ∷ codes "uint16_t"
+    ∷ codes "uint32_t"
+    ∷ codes "uint64_t" ∷ []
+    )
 
 -- ---- what specifiers and declarators say of a name
 

@@ -5,21 +5,23 @@ pub mod declaration;
 pub mod declarator;
 pub mod expression;
 pub mod initializer;
+pub mod law;
 pub mod operator;
 mod output;
 pub mod specifier;
 mod spell_expression;
 mod spell_unit;
 pub mod spelled;
-mod words;
 pub mod statement;
 pub mod type_name;
 pub mod unit;
+mod words;
 
 pub use declaration::{Assert, Declaration, InitDeclarator};
 pub use declarator::{Declarator, Parameter};
 pub use expression::{Constant, Expr, Literals};
 pub use initializer::{Initializer, Item};
+pub use law::{first_token_law, height_law, spelling_law};
 pub use operator::{Access, Arithmetic, Comparison, Infix, Measure, Postfix, Prefix};
 pub use specifier::{
     BasicWord, CompoundWord, Enumerator, MemberDeclaration, Qualifier, Specifier, Storage, Tag,

@@ -67,7 +67,12 @@ pub(crate) fn name(alloc: Global, out: &mut Output, name: &Name) -> Result<(), A
     bare(out, Body::Name(name))
 }
 
-pub(crate) fn name_at(alloc: Global, out: &mut Output, pos: Pos, name: &Name) -> Result<(), AllocError>
+pub(crate) fn name_at(
+    alloc: Global,
+    out: &mut Output,
+    pos: Pos,
+    name: &Name,
+) -> Result<(), AllocError>
     ensures { IfOk result (λ _. out.new.items ≡ out.old.items ++ spec.name_at pos name.now ∷ []) }
 {
     let name = Name::new(alloc, name.bytes())?;

@@ -7,8 +7,8 @@ ghost use Rattle.c_parser.specs.View as view;
 use crate::declarator::{Declarator, Parameter};
 use crate::expression::Expr;
 use crate::output::{
-    Output, comma_if, constant, ellipsis_if, literals, mark, mark_at, name, name_at, placed, prefix,
-    qualifiers, tag, word, word_at,
+    Output, comma_if, constant, ellipsis_if, literals, mark, mark_at, name, name_at, placed,
+    prefix, qualifiers, tag, word, word_at,
 };
 use crate::specifier::{Enumerator, MemberDeclaration, Specifier, Tag};
 use crate::type_name::TypeName;
@@ -109,7 +109,11 @@ pub(crate) fn type_name(alloc: Global, out: &mut Output, of: &TypeName) -> Resul
 }
 
 #[cycle(spelling)]
-pub(crate) fn specifiers(alloc: Global, out: &mut Output, list: &[Specifier]) -> Result<(), AllocError>
+pub(crate) fn specifiers(
+    alloc: Global,
+    out: &mut Output,
+    list: &[Specifier],
+) -> Result<(), AllocError>
     ensures { IfOk result (λ _. out.new.items ≡ out.old.items ++ flat_map (λ s. spec.spell_specifier (view.specifier_of s)) list.now) }
 {
     for each in list {

@@ -82,7 +82,11 @@ fn init_declarator(alloc: Global, out: &mut Output, one: &InitDeclarator) -> Res
     }
 }
 
-fn init_declarators(alloc: Global, out: &mut Output, list: &[InitDeclarator]) -> Result<(), AllocError>
+fn init_declarators(
+    alloc: Global,
+    out: &mut Output,
+    list: &[InitDeclarator],
+) -> Result<(), AllocError>
     ensures { IfOk result (λ _. out.new.items ≡ out.old.items ++ commas (map (λ d. spec.spell_init_declarator (view.init_declarator_of d)) list.now)) }
 {
     let [first, rest @ ..] = list else {
