@@ -1,4 +1,5 @@
 pub mod EmptyLaws
+pub mod Examples
 pub mod FirstLaws
 pub mod HeightLaws
 pub mod Parts

@@ -31,3 +31,6 @@ pub use spelled::Spelled;
 pub use statement::{BlockItem, ForInit, Statement, SwitchItem};
 pub use type_name::TypeName;
 pub use unit::{External, Function, Tree};
+
+#[cfg(test)]
+mod tests;
