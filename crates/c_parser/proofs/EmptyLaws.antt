@@ -2,7 +2,7 @@
 use Rattle.std.proofs.Common.{◌≡◌, Bool, true, false, List, [], ◌∷◌, ◌++◌, Option, Some, None, refl}
 use Rattle.c_parser.specs.declared.spelled.Spelled.{Spelled}
 use Rattle.c_parser.specs.Tree.{Expr, Declarator, Omitted, Name, DParen, PointerTo, ArrayOf, FunctionOf}
-use Rattle.c_parser.specs.Body.{Initializer, Single, Braces, Item, Plain, ForMember, ForIndex, Statement, Block, ExprStmt, If, IfElse, Switch, While, Do, For, Break, Continue, Return, BlockItem, Declared, Asserted, Done, SwitchItem, Case, Default, Within, External, Defines, Declaring, Asserting, Tree}
+use Rattle.c_parser.specs.TreeUnit.{Initializer, Single, Braces, Item, Plain, ForMember, ForIndex, Statement, Block, ExprStmt, If, IfElse, Switch, While, Do, For, Break, Continue, Return, BlockItem, Declared, Asserted, Done, SwitchItem, Case, Default, Within, External, Defines, Declaring, Asserting, Tree}
 use Rattle.c_parser.specs.First.{IsFirst}
 use Rattle.c_parser.specs.Scopes.{Scope, predeclared}
 use Rattle.c_parser.specs.Spelling.{spell_declarator}

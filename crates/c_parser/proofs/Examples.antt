@@ -9,7 +9,7 @@ use Rattle.c_parser.specs.declared.operator.Measure.TheVariants.{SizeType}
 use Rattle.c_parser.specs.declared.specifier.BasicWord.TheVariants.{Int, Unsigned}
 use Rattle.c_parser.specs.declared.specifier.Qualifier.TheVariants as qualifier
 use Rattle.c_parser.specs.Tree.{Expr, Id, Paren, Call, Prefix', Measure', Cast, Infix', NoExpr, MoreExprs, With, Without, TypeName, Type', Specifiers, Qualifier', BasicWord', Enum, TypedefName, NoSpecifier, MoreSpecifiers, Enumerates, NoEnumerator, MoreEnumerators, Declarator, Omitted, Name, DParen, PointerTo, ArrayOf, FunctionOf, Param, Parameter, NoParameter, MoreParameters}
-use Rattle.c_parser.specs.Body.{Declaration, Statement, ExprStmt, If, IfElse, While, Do, Block, NoBlockItem}
+use Rattle.c_parser.specs.TreeUnit.{Declaration, Statement, ExprStmt, If, IfElse, While, Do, Block, NoBlockItem}
 use Rattle.c_parser.specs.Levels.{expression, assignment, conditional}
 use Rattle.c_parser.specs.Scopes.{Scope}
 use Rattle.c_parser.specs.WellFormed.{SpecifyOneType, IsExpr, IsTypeName, IsDeclarator, IsParameter}

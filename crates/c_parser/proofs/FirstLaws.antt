@@ -14,7 +14,7 @@ use Rattle.c_parser.specs.declared.specifier.CompoundWord.{CompoundWord}
 use Rattle.c_parser.specs.declared.specifier.CompoundWord.TheVariants as compound
 use Rattle.c_parser.specs.declared.spelled.Spelled.{Spelled}
 use Rattle.c_parser.specs.Tree.{Expr, Const, Id, Text, Paren, Index, Call, Member, Postfix', Prefix', Measure', Cast, Infix', Cond, TypeName, Type', Specifier, Storage', Qualifier', Inline, BasicWord', CompoundTag, Compound, EnumTag, Enum, TypedefName, Specifiers, NoSpecifier, MoreSpecifiers, MemberDeclaration, Declares, Parameter, Param}
-use Rattle.c_parser.specs.Body.{Declaration}
+use Rattle.c_parser.specs.TreeUnit.{Declaration}
 use Rattle.c_parser.specs.First.{begins_specifier, IsFirst, is_specifier_word}
 use Rattle.c_parser.specs.Operators.{prefix_token, measure_word, compound_word}
 use Rattle.c_parser.specs.Scopes.{Scope}

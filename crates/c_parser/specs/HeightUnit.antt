@@ -2,7 +2,7 @@
 use Rattle.std.specs.Prelude.{ℕ, suc, max, List, [], ◌∷◌, Option, Some, None}
 use Rattle.c_parser.specs.Tree.{Expr}
 use Rattle.c_parser.specs.Height.{height, specifiers_height, declarator_height}
-use Rattle.c_parser.specs.Body.{Initializer, Single, Braces, Item, Plain, ForMember, ForIndex, Items, NoItem, MoreItems, InitDeclarator, Declaration, Assert, ForInit, Begins, Evaluates, Statement, Block, ExprStmt, If, IfElse, Switch, While, Do, For, Break, Continue, Return, BlockItem, Declared, Asserted, Done, BlockItems, NoBlockItem, MoreBlockItems, SwitchItem, Case, Default, Within, SwitchItems, NoSwitchItem, MoreSwitchItems, Function, External, Defines, Declaring, Asserting, Tree}
+use Rattle.c_parser.specs.TreeUnit.{Initializer, Single, Braces, Item, Plain, ForMember, ForIndex, Items, NoItem, MoreItems, InitDeclarator, Declaration, Assert, ForInit, WithDeclaration, WithExpression, Statement, Block, ExprStmt, If, IfElse, Switch, While, Do, For, Break, Continue, Return, BlockItem, Declared, Asserted, Done, BlockItems, NoBlockItem, MoreBlockItems, SwitchItem, Case, Default, Within, SwitchItems, NoSwitchItem, MoreSwitchItems, Function, External, Defines, Declaring, Asserting, Tree}
 
 -- an initializer that is an expression is no other node
 abbrev mutual
@@ -40,8 +40,8 @@ optional_height None = 0
 optional_height (Some expr) = height expr
 
 abbrev pub for_init_height : ForInit → ℕ
-for_init_height (Begins declaration) = declaration_height declaration
-for_init_height (Evaluates expr) = optional_height expr
+for_init_height (WithDeclaration declaration) = declaration_height declaration
+for_init_height (WithExpression expr) = optional_height expr
 
 abbrev mutual
   pub statement_height : Statement → ℕ

@@ -1,7 +1,7 @@
 pub mod Tree
-pub mod Body
+pub mod TreeUnit
 pub mod View
-pub mod ViewBody
+pub mod ViewUnit
 pub mod Tokens
 pub mod Operators
 pub mod Spelling

@@ -6,7 +6,7 @@ use Rattle.critical_table.specs.declared.refusal.Refusal.TheVariants.{Syntax, De
 use Rattle.c_lexer.specs.declared.token.Token.{Token}
 use Rattle.c_lexer.specs.Stream.{Stream}
 use Rattle.c_parser.specs.Tokens.{Match}
-use Rattle.c_parser.specs.Body.{Tree}
+use Rattle.c_parser.specs.TreeUnit.{Tree}
 use Rattle.c_parser.specs.SpellingUnit.{spell_tree}
 use Rattle.c_parser.specs.HeightUnit.{greatest_height}
 use Rattle.c_parser.specs.WellFormedUnit.{IsTree, IsWellFormed}

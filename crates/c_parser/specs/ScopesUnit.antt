@@ -2,7 +2,7 @@
 use Rattle.std.specs.Prelude.{Bool, true, false, cond, List, [], ◌∷◌, ◌++◌, Option, Some, None}
 use Rattle.c_parser.specs.Tree.{Expr, Declarator, Omitted, Name, DParen, PointerTo, ArrayOf, FunctionOf, Parameters}
 use Rattle.c_parser.specs.Scopes.{Scope, names_types, own_name, declared_if, declared_by, expr_adds, specifiers_add, declarator_adds, parameters_add}
-use Rattle.c_parser.specs.Body.{Initializer, Single, Braces, Item, Plain, ForMember, ForIndex, Items, NoItem, MoreItems, InitDeclarator, Declaration, ForInit, Begins, Evaluates, Statement, Block, ExprStmt, If, IfElse, Switch, While, Do, For, Break, Continue, Return, BlockItem, Declared, Asserted, Done, SwitchItem, Case, Default, Within, Function, External, Defines, Declaring, Asserting}
+use Rattle.c_parser.specs.TreeUnit.{Initializer, Single, Braces, Item, Plain, ForMember, ForIndex, Items, NoItem, MoreItems, InitDeclarator, Declaration, ForInit, WithDeclaration, WithExpression, Statement, Block, ExprStmt, If, IfElse, Switch, While, Do, For, Break, Continue, Return, BlockItem, Declared, Asserted, Done, SwitchItem, Case, Default, Within, Function, External, Defines, Declaring, Asserting}
 
 abbrev mutual
   pub initializer_adds : Initializer → Scope
@@ -39,8 +39,8 @@ optional_adds None = []
 optional_adds (Some expr) = expr_adds expr
 
 abbrev pub for_init_adds : ForInit → Scope
-for_init_adds (Begins declaration) = declaration_adds declaration
-for_init_adds (Evaluates expr) = optional_adds expr
+for_init_adds (WithDeclaration declaration) = declaration_adds declaration
+for_init_adds (WithExpression expr) = optional_adds expr
 
 -- Selection and iteration statements are blocks (6.8.4p3, 6.8.5p5), and so what stands in them adds nothing to what
 -- follows; expression and jump statements are none: behind (enum {A})0; the name A is in scope.

@@ -7,7 +7,7 @@ use Rattle.c_parser.specs.declared.spelled.Spelled.{Spelled}
 use Rattle.c_parser.specs.Tokens.{word, word_at, mark, mark_at, name, commas, comma_if, spell_pieces}
 use Rattle.c_parser.specs.Tree.{Expr}
 use Rattle.c_parser.specs.Spelling.{spell, spell_specifiers, spell_declarator}
-use Rattle.c_parser.specs.Body.{Initializer, Single, Braces, Item, Plain, ForMember, ForIndex, Items, NoItem, MoreItems, InitDeclarator, Declaration, Assert, ForInit, Begins, Evaluates, Statement, Block, ExprStmt, If, IfElse, Switch, While, Do, For, Break, Continue, Return, BlockItem, Declared, Asserted, Done, BlockItems, NoBlockItem, MoreBlockItems, SwitchItem, Case, Default, Within, SwitchItems, NoSwitchItem, MoreSwitchItems, Function, External, Defines, Declaring, Asserting, Tree}
+use Rattle.c_parser.specs.TreeUnit.{Initializer, Single, Braces, Item, Plain, ForMember, ForIndex, Items, NoItem, MoreItems, InitDeclarator, Declaration, Assert, ForInit, WithDeclaration, WithExpression, Statement, Block, ExprStmt, If, IfElse, Switch, While, Do, For, Break, Continue, Return, BlockItem, Declared, Asserted, Done, BlockItems, NoBlockItem, MoreBlockItems, SwitchItem, Case, Default, Within, SwitchItems, NoSwitchItem, MoreSwitchItems, Function, External, Defines, Declaring, Asserting, Tree}
 
 abbrev mutual
   -- 6.7.9
@@ -53,8 +53,8 @@ spell_optional (Some expr) = spell expr
 
 -- 6.8.5.3; the declaration's own semicolon is the first of the two
 abbrev pub spell_for_init : ForInit → List Spelled
-spell_for_init (Begins declaration) = spell_declaration declaration
-spell_for_init (Evaluates expr) = spell_optional expr ++ mark p.Semicolon ∷ []
+spell_for_init (WithDeclaration declaration) = spell_declaration declaration
+spell_for_init (WithExpression expr) = spell_optional expr ++ mark p.Semicolon ∷ []
 
 -- the controlling expression of a statement (6.8.4, 6.8.5)
 abbrev pub spell_controlling : Expr → List Spelled

@@ -58,8 +58,8 @@ HasEnumerator NoEnumerator = ⊥
 HasEnumerator _ = Unit {0}
 
 -- the declarator declares an identifier, or omits it (6.7.6, 6.7.7)
-abbrev pub Declares' : Declarator → Type 0
-Declares' declarator = IsSome (own_name declarator)
+abbrev pub DeclaresName : Declarator → Type 0
+DeclaresName declarator = IsSome (own_name declarator)
 
 abbrev pub Omits : Declarator → Type 0
 Omits declarator = own_name declarator ≡ None
@@ -163,7 +163,7 @@ abbrev mutual
   pub AreDeclarators : Declarators → Scope → Type 0
   AreDeclarators NoDeclarator scope = Unit {0}
   AreDeclarators (MoreDeclarators first rest) scope =
-      IsDeclarator first scope × Declares' first × AreDeclarators rest (scope ++ declarator_adds first)
+      IsDeclarator first scope × DeclaresName first × AreDeclarators rest (scope ++ declarator_adds first)
 
   pub IsEnumerator : Enumerator → Scope → Type 0
   IsEnumerator (Enumerates pos x value) scope = IsConstant value scope

@@ -6,8 +6,8 @@ use Rattle.c_parser.specs.Tree.{Expr}
 use Rattle.c_parser.specs.HeightUnit.{tree_height, greatest_height}
 use Rattle.c_parser.specs.Scopes.{Scope, predeclared, names_types, own_name, declared_if, expr_adds, specifiers_add, declarator_adds}
 use Rattle.c_parser.specs.ScopesUnit.{item_adds, init_adds, optional_adds, for_init_adds, block_item_adds, switch_item_adds, own_parameters, body_scope, external_adds}
-use Rattle.c_parser.specs.WellFormed.{AreAdjacent, SpecifyOneType, Declares', IsExpr, AreSpecifiers, IsDeclarator}
-use Rattle.c_parser.specs.Body.{Initializer, Single, Braces, Item, Plain, ForMember, ForIndex, Items, NoItem, MoreItems, InitDeclarator, Declaration, Assert, ForInit, Begins, Evaluates, Statement, Block, ExprStmt, If, IfElse, Switch, While, Do, For, Break, Continue, Return, BlockItem, Declared, Asserted, Done, BlockItems, NoBlockItem, MoreBlockItems, SwitchItem, Case, Default, Within, SwitchItems, NoSwitchItem, MoreSwitchItems, Function, External, Defines, Declaring, Asserting, Tree}
+use Rattle.c_parser.specs.WellFormed.{AreAdjacent, SpecifyOneType, DeclaresName, IsExpr, AreSpecifiers, IsDeclarator}
+use Rattle.c_parser.specs.TreeUnit.{Initializer, Single, Braces, Item, Plain, ForMember, ForIndex, Items, NoItem, MoreItems, InitDeclarator, Declaration, Assert, ForInit, WithDeclaration, WithExpression, Statement, Block, ExprStmt, If, IfElse, Switch, While, Do, For, Break, Continue, Return, BlockItem, Declared, Asserted, Done, BlockItems, NoBlockItem, MoreBlockItems, SwitchItem, Case, Default, Within, SwitchItems, NoSwitchItem, MoreSwitchItems, Function, External, Defines, Declaring, Asserting, Tree}
 
 abbrev pub HasItem : Items → Type 0
 HasItem NoItem = ⊥
@@ -39,7 +39,7 @@ AreInitDeclarators names_type [] scope = Unit {0}
 AreInitDeclarators names_type (one ∷ rest) scope =
     let behind = scope ++ declarator_adds one.declarator ++ declared_if names_type (own_name one.declarator) in
     IsDeclarator one.declarator scope
-    × Declares' one.declarator
+    × DeclaresName one.declarator
     × IsInit one.initializer behind
     × AreInitDeclarators names_type rest (behind ++ init_adds one.initializer)
 
@@ -60,8 +60,8 @@ IsOptional None scope = Unit {0}
 IsOptional (Some expr) scope = IsExpr expr scope expression
 
 abbrev pub IsForInit : ForInit → Scope → Type 0
-IsForInit (Begins declaration) scope = IsDeclaration declaration scope
-IsForInit (Evaluates expr) scope = IsOptional expr scope
+IsForInit (WithDeclaration declaration) scope = IsDeclaration declaration scope
+IsForInit (WithExpression expr) scope = IsOptional expr scope
 
 -- no else that follows would belong to an if in the statement (6.8.4.1p3)
 abbrev pub IsClosed : Statement → Type 0
@@ -127,7 +127,7 @@ IsFunction function scope =
     SpecifyOneType function.specifiers
     × AreSpecifiers function.specifiers scope
     × IsDeclarator function.declarator (scope ++ specifiers_add function.specifiers)
-    × Declares' function.declarator
+    × DeclaresName function.declarator
     × IsSome (own_parameters function.declarator)
     × AreBlockItems function.body (body_scope scope function)
 

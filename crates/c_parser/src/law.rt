@@ -3,7 +3,7 @@
 ghost use Rattle.std.specs.Prelude.{◌≡◌, ◌≤◌, ℕ, List, [], true, false};
 ghost use Rattle.c_parser.specs.First.{IsFirst};
 ghost use Rattle.c_parser.specs.Tree.{Expr, TypeName, Specifiers, Declarator, Parameter, MemberDeclaration};
-ghost use Rattle.c_parser.specs.Body.{Initializer, Item, Declaration, Statement, BlockItem, SwitchItem, External, Tree};
+ghost use Rattle.c_parser.specs.TreeUnit.{Initializer, Item, Declaration, Statement, BlockItem, SwitchItem, External, Tree};
 ghost use Rattle.c_parser.specs.Scopes.{Scope, names_types};
 ghost use Rattle.c_parser.specs.Spelling.{spell, spell_type_name, spell_specifiers, spell_declarator, spell_parameter, spell_member};
 ghost use Rattle.c_parser.specs.SpellingUnit.{spell_initializer, spell_item, spell_declaration, spell_statement, spell_block_item, spell_switch_item, spell_external, spell_tree};

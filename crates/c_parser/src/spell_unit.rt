@@ -4,7 +4,7 @@ ghost use Rattle.std.specs.Option.{option_map};
 ghost use Rattle.c_parser.specs.SpellingUnit as spec;
 ghost use Rattle.c_parser.specs.Tokens.{commas, spell_pieces};
 ghost use Rattle.c_parser.specs.View.{expr_of};
-ghost use Rattle.c_parser.specs.ViewBody as view;
+ghost use Rattle.c_parser.specs.ViewUnit as view;
 
 use crate::declaration::{Assert, Declaration, InitDeclarator};
 use crate::expression::Expr;

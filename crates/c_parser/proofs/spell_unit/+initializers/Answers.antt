@@ -1,7 +1,7 @@
 use Rattle.std.proofs.Common.{rules, ◌∙◌, ap, append_assoc}
 use Rattle.std.proofs.lemmas.Result.{IfOk-equal}
 use Rattle.c_parser.specs.SpellingUnit.{spell_initializer}
-use Rattle.c_parser.specs.ViewBody.{initializer_of}
+use Rattle.c_parser.specs.ViewUnit.{initializer_of}
 use Rattle.c_parser.proofs.PartsUnit.{spells_braces}
 use Rattle.c_parser.proofs.spell_unit.+initializers.Goals as goal
 

@@ -2,7 +2,7 @@ use Rattle.std.proofs.Common.{◌≡◌, ◌∷◌, ◌++◌, map, take}
 use Rattle.std.specs.List.{flat_map}
 use Rattle.c_lexer.specs.declared.punct.Punct.TheVariants as p
 use Rattle.c_parser.specs.SpellingUnit.{spell_item}
-use Rattle.c_parser.specs.ViewBody.{item_of}
+use Rattle.c_parser.specs.ViewUnit.{item_of}
 use Rattle.c_parser.specs.Tokens.{mark}
 use Rattle.c_parser.proofs.spell_unit.+initializers.Given as goal
 

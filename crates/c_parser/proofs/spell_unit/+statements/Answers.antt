@@ -1,7 +1,7 @@
 use Rattle.std.proofs.Common.{rules, ◌∙◌, ap, append_assoc}
 use Rattle.std.proofs.lemmas.Result.{IfOk-equal}
 use Rattle.c_parser.specs.SpellingUnit.{spell_statement}
-use Rattle.c_parser.specs.ViewBody.{statement_of}
+use Rattle.c_parser.specs.ViewUnit.{statement_of}
 use Rattle.c_parser.proofs.PartsUnit.{spells_block, spells_switch}
 use Rattle.c_parser.proofs.spell_unit.+statements.Goals as goal
 

@@ -1,7 +1,7 @@
 use Rattle.std.proofs.Common.{◌≡◌, ◌++◌, take}
 use Rattle.std.specs.List.{flat_map}
 use Rattle.c_parser.specs.SpellingUnit.{spell_block_item, spell_switch_item}
-use Rattle.c_parser.specs.ViewBody.{block_item_of, switch_item_of}
+use Rattle.c_parser.specs.ViewUnit.{block_item_of, switch_item_of}
 use Rattle.c_parser.proofs.spell_unit.+statements.Given as goal
 
 abbrev pub invariant-block_items-loop-each : goal.invariant-block_items-loop-each

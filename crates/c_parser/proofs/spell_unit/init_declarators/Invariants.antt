@@ -2,7 +2,7 @@ use Rattle.std.proofs.Common.{◌≡◌, ◌∷◌, ◌++◌, map, take}
 use Rattle.std.specs.List.{flat_map}
 use Rattle.c_lexer.specs.declared.punct.Punct.TheVariants as p
 use Rattle.c_parser.specs.SpellingUnit.{spell_init_declarator}
-use Rattle.c_parser.specs.ViewBody.{init_declarator_of}
+use Rattle.c_parser.specs.ViewUnit.{init_declarator_of}
 use Rattle.c_parser.specs.Tokens.{mark}
 use Rattle.c_parser.proofs.spell_unit.init_declarators.Given as goal
 

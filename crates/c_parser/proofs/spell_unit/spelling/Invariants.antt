@@ -1,7 +1,7 @@
 use Rattle.std.proofs.Common.{◌≡◌, map, take}
 use Rattle.std.specs.List.{flat_map}
 use Rattle.c_parser.specs.SpellingUnit.{spell_external}
-use Rattle.c_parser.specs.ViewBody.{external_of}
+use Rattle.c_parser.specs.ViewUnit.{external_of}
 use Rattle.c_parser.proofs.spell_unit.spelling.Given as goal
 
 abbrev pub invariant-loop-each : goal.invariant-loop-each

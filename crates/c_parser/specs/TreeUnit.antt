@@ -37,8 +37,8 @@ pub record Assert : Type 0 where
 
 -- what stands before the first semicolon of a `for` (6.8.5.3); a declaration has that semicolon
 pub data ForInit : Type 0 where
-  Begins : (declaration : Declaration) → ForInit
-  Evaluates : (expr : Option Expr) → ForInit
+  WithDeclaration : (declaration : Declaration) → ForInit
+  WithExpression : (expr : Option Expr) → ForInit
 
 mutual
   -- 6.8

@@ -16,7 +16,7 @@ use Rattle.c_parser.specs.declared.unit.External as x
 use Rattle.c_parser.specs.declared.unit.External.TheVariants as external
 use Rattle.c_parser.specs.declared.unit.Tree as t
 use Rattle.c_parser.specs.View.{expr_of, declarator_of, specifiers_of, literals_of}
-use Rattle.c_parser.specs.Body.{Initializer, Single, Braces, Item, Plain, ForMember, ForIndex, Items, NoItem, MoreItems, InitDeclarator, Declaration, Assert, ForInit, Begins, Evaluates, Statement, Block, ExprStmt, If, IfElse, Switch, While, Do, For, Break, Continue, Return, BlockItem, Declared, Asserted, Done, BlockItems, NoBlockItem, MoreBlockItems, SwitchItem, Case, Default, Within, SwitchItems, NoSwitchItem, MoreSwitchItems, Function, External, Defines, Declaring, Asserting, Tree}
+use Rattle.c_parser.specs.TreeUnit.{Initializer, Single, Braces, Item, Plain, ForMember, ForIndex, Items, NoItem, MoreItems, InitDeclarator, Declaration, Assert, ForInit, WithDeclaration, WithExpression, Statement, Block, ExprStmt, If, IfElse, Switch, While, Do, For, Break, Continue, Return, BlockItem, Declared, Asserted, Done, BlockItems, NoBlockItem, MoreBlockItems, SwitchItem, Case, Default, Within, SwitchItems, NoSwitchItem, MoreSwitchItems, Function, External, Defines, Declaring, Asserting, Tree}
 
 abbrev mutual
   pub initializer_of : i.Initializer → Initializer
@@ -50,8 +50,8 @@ assert_of assert = record {
 }
 
 abbrev pub for_init_of : f.ForInit → ForInit
-for_init_of (init.Declaration declaration) = Begins (declaration_of declaration)
-for_init_of (init.Expression expr) = Evaluates (option_map expr_of expr)
+for_init_of (init.Declaration declaration) = WithDeclaration (declaration_of declaration)
+for_init_of (init.Expression expr) = WithExpression (option_map expr_of expr)
 
 abbrev mutual
   pub statement_of : s.Statement → Statement
