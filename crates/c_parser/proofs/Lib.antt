@@ -1,3 +1,4 @@
+pub mod AnswerLaws
 pub mod EmptyLaws
 pub mod Examples
 pub mod FirstLaws

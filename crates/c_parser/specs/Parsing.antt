@@ -24,8 +24,13 @@ pub record SpelledBy (stream : Stream) (tree : Tree) : Type 0 where
   -- no other tree has these tokens, of whatever height
   pub only : (other : Tree) → IsTree other → Match stream.tokens (spell_tree other) → other.end ≡ stream.end → other ≡ tree
 
--- The unit is refused at a token: the first with which no syntactic unit begins. It is too deep where, without the
--- greatest height, some unit would begin so.
+-- a refused list of tokens is too deep where, without the greatest height, some unit would begin with it
+abbrev pub IsReason : Refusal → List Token → Type 0
+IsReason Deep tokens = (most : ℕ) × BeginsTree most tokens
+IsReason Syntax tokens = (most : ℕ) → BeginsTree most tokens → ⊥
+IsReason _ tokens = ⊥
+
+-- The unit is refused at a token: the first with which no syntactic unit begins,
 pub record RefusedAtToken (stream : Stream) (why : Refusal) (pos : Pos) : Type 0 where
   pub before : List Token
   pub token : Token
@@ -34,11 +39,9 @@ pub record RefusedAtToken (stream : Stream) (why : Refusal) (pos : Pos) : Type 0
   pub place : pos ≡ token.pos
   pub begins : BeginsTree greatest_height before
   pub first : BeginsTree greatest_height (before ++ token ∷ []) → ⊥
-  pub reason :
-      ((why ≡ Deep) × ((most : ℕ) × BeginsTree most (before ++ token ∷ [])))
-      ⊎ ((why ≡ Syntax) × ((most : ℕ) → BeginsTree most (before ++ token ∷ []) → ⊥))
+  pub reason : IsReason why (before ++ token ∷ [])
 
--- or at the place behind its last byte: all tokens begin a syntactic unit, and are none
+-- or at the place behind its last byte: all tokens begin a syntactic unit, and are none.
 pub record RefusedAtEnd (stream : Stream) (why : Refusal) (pos : Pos) : Type 0 where
   pub place : pos ≡ stream.end
   pub begins : BeginsTree greatest_height stream.tokens

@@ -8,7 +8,7 @@ use Rattle.c_parser.specs.Tree.{Literals, Expr, Const, Id, Text, Paren, Index, C
 
 -- ---- what a node asks of its parts, apart from scopes
 
--- "a" "b" is one Text of two pieces
+-- one literal at least: "a" "b" is one Text of two pieces (6.4.5p5)
 abbrev pub AreAdjacent : Literals → Type 0
 AreAdjacent text = text.pieces ≡ [] → ⊥
 
@@ -34,7 +34,8 @@ SpecifyOneType specifiers =
     ((1 ≤ basic_words specifiers) × (other_types specifiers ≡ 0))
     ⊎ ((basic_words specifiers ≡ 0) × (other_types specifiers ≡ 1))
 
--- *a[1] is a pointer's array's element: a pointer is no part of an array or function declarator, but (*a)[1] (6.7.6)
+-- int *a[1] is an array of pointers, int (*a)[1] a pointer to an array: a pointer stands in an array or function
+-- declarator only in parentheses (6.7.6)
 abbrev pub IsDirect : Declarator → Type 0
 IsDirect (PointerTo qualifiers inner) = ⊥
 IsDirect _ = Unit {0}
@@ -123,7 +124,7 @@ abbrev mutual
   AreArguments (MoreExprs first rest) scope =
       IsExpr first scope assignment × AreArguments rest (scope ++ expr_adds first)
 
-  -- a constant expression: int a[b = 1] and enum {A = (1, 2)} differ in the parentheses (6.6)
+  -- int a[(b = 1)] has a conditional expression between its brackets, int a[b = 1] none (6.6)
   pub IsConstant : Maybe → Scope → Type 0
   IsConstant Without scope = Unit {0}
   IsConstant (With expr) scope = IsExpr expr scope conditional

@@ -1,14 +1,18 @@
 //! Laws of the definitions: what holds of each well-formed node.
 
-ghost use Rattle.std.specs.Prelude.{◌≡◌, ◌≤◌, ℕ, List, [], true, false};
+ghost use Rattle.std.specs.Prelude.{◌≡◌, ◌≤◌, ℕ, [], true, false};
+ghost use Rattle.critical_table.specs.declared.pos.Pos.{Pos};
+ghost use Rattle.critical_table.specs.declared.refusal.Refusal.{Refusal};
+ghost use Rattle.c_lexer.specs.Stream.{Stream};
+ghost use Rattle.c_parser.specs.Parsing.{SpelledBy, RefusedAt};
 ghost use Rattle.c_parser.specs.First.{IsFirst};
 ghost use Rattle.c_parser.specs.Tree.{Expr, TypeName, Specifiers, Declarator, Parameter, MemberDeclaration};
 ghost use Rattle.c_parser.specs.TreeUnit.{Initializer, Item, Declaration, Statement, BlockItem, SwitchItem, External, Tree};
-ghost use Rattle.c_parser.specs.Scopes.{Scope, names_types};
+ghost use Rattle.c_parser.specs.Scopes.{Scope};
 ghost use Rattle.c_parser.specs.Spelling.{spell, spell_type_name, spell_specifiers, spell_declarator, spell_parameter, spell_member};
 ghost use Rattle.c_parser.specs.SpellingUnit.{spell_initializer, spell_item, spell_declaration, spell_statement, spell_block_item, spell_switch_item, spell_external, spell_tree};
-ghost use Rattle.c_parser.specs.Height.{height, type_name_height, declarator_height, parameter_height, member_height};
-ghost use Rattle.c_parser.specs.HeightUnit.{initializer_height, item_height, declaration_height, statement_height, block_item_height, switch_item_height, external_height, tree_height, greatest_height};
+ghost use Rattle.c_parser.specs.Height.{height, type_name_height, declarator_height};
+ghost use Rattle.c_parser.specs.HeightUnit.{initializer_height, statement_height, external_height, tree_height};
 ghost use Rattle.c_parser.specs.WellFormed.{HasToken, SpecifyOneType, IsExpr, IsTypeName, AreSpecifiers, IsDeclarator, IsParameter, IsMember};
 ghost use Rattle.c_parser.specs.WellFormedUnit.{IsInitializer, IsItem, IsDeclaration, IsStatement, IsBlockItem, IsSwitchItem, IsExternal, IsTree, IsWellFormed};
 
@@ -45,4 +49,11 @@ pub fn height_law()
     ensures external { (external : External) → 1 ≤ external_height external }
     ensures least { (tree : Tree) → IsTree tree → 2 ≤ tree_height tree }
     ensures greatest { (tree : Tree) → IsWellFormed tree → tree_height tree ≤ 256 }
+{}
+
+/// A unit has one tree, or is refused for one reason at one place, and not both.
+pub fn answer_law()
+    ensures tree { (stream : Stream) (a b : Tree) → SpelledBy stream a → SpelledBy stream b → a ≡ b }
+    ensures refusal { (stream : Stream) (why why' : Refusal) (pos pos' : Pos) → RefusedAt stream why pos → RefusedAt stream why' pos' → (why ≡ why') × (pos ≡ pos') }
+    ensures apart { (stream : Stream) (tree : Tree) (why : Refusal) (pos : Pos) → SpelledBy stream tree → RefusedAt stream why pos → ⊥ }
 {}

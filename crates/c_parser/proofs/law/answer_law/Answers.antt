@@ -1,0 +1,5 @@
+use Rattle.c_parser.proofs.AnswerLaws.{one_tree, one_refusal, not_both}
+use Rattle.c_parser.proofs.law.answer_law.Goals as goal
+
+pub returns : goal.returns
+returns c = record { tree = one_tree; refusal = one_refusal; apart = not_both }
