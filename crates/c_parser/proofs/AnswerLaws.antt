@@ -9,10 +9,9 @@ use Rattle.c_parser.specs.declared.spelled.Spelled.{Spelled}
 use Rattle.c_parser.specs.TreeUnit.{Tree}
 use Rattle.c_parser.specs.Tokens.{Match}
 use Rattle.c_parser.specs.SpellingUnit.{spell_tree}
-use Rattle.c_parser.specs.HeightUnit.{tree_height, greatest_height}
-use Rattle.c_parser.specs.WellFormedUnit.{IsTree}
-use Rattle.c_parser.specs.Begin.{Begins, BeginsTree}
-use Rattle.c_parser.specs.Parsing.{IsReason, SpelledBy, RefusedAt, RefusedAtToken, RefusedAtEnd}
+use Rattle.c_parser.specs.HeightUnit.{greatest_height}
+use Rattle.c_parser.specs.Begin.{BeginsTree}
+use Rattle.c_parser.specs.Parsing.{IsReason, SpelledBy, RefusedAt, RefusedAtToken}
 
 -- ---- what begins with more tokens begins with fewer
 
@@ -102,15 +101,15 @@ at_one_token stream why why' pos pos' at at' =
     elim (seams at.before at'.before at.token at'.token at.after at'.after (sym at.parts ∙ at'.parts)) [
       | inl same ↦ (
         let tokens : at'.before ++ at'.token ∷ [] ≡ at.before ++ at.token ∷ [] = cc (same.0, same.1) in
-        one_reason why why' _ at.reason (subst (IsReason why') tokens at'.reason),
-        at.place ∙ ap (λ token. token.pos) same.1 ∙ sym at'.place
+            one_reason why why' _ at.reason (subst (IsReason why') tokens at'.reason),
+        at.place ∙ ap (λ token. token.pos) same.1 ∙ sym at'.place,
       )
       | inr (inl later) ↦ absurd (
-        at.first (begins_before greatest_height at.before later.0 at.token (subst (BeginsTree greatest_height) later.1 at'.begins))
-      )
+          at.first (begins_before greatest_height at.before later.0 at.token (subst (BeginsTree greatest_height) later.1 at'.begins))
+          )
       | inr (inr later) ↦ absurd (
-        at'.first (begins_before greatest_height at'.before later.0 at'.token (subst (BeginsTree greatest_height) later.1 at.begins))
-      )
+          at'.first (begins_before greatest_height at'.before later.0 at'.token (subst (BeginsTree greatest_height) later.1 at.begins))
+          )
     ]
 
 pub one_refusal : (stream : Stream) (why why' : Refusal) (pos pos' : Pos)

@@ -1,7 +1,7 @@
 -- No spelling of a well-formed node is empty.
-use Rattle.std.proofs.Common.{◌≡◌, Bool, true, false, List, [], ◌∷◌, ◌++◌, Option, Some, None, refl}
+use Rattle.std.proofs.Common.{◌≡◌, Bool, true, false, List, [], ◌∷◌, ◌++◌, refl}
 use Rattle.c_parser.specs.declared.spelled.Spelled.{Spelled}
-use Rattle.c_parser.specs.Tree.{Expr, Declarator, Omitted, Name, DParen, PointerTo, ArrayOf, FunctionOf}
+use Rattle.c_parser.specs.Tree.{Declarator, Omitted, Name, DParen, PointerTo, ArrayOf, FunctionOf}
 use Rattle.c_parser.specs.TreeUnit.{Initializer, Single, Braces, Item, Plain, ForMember, ForIndex, Statement, Block, ExprStmt, If, IfElse, Switch, While, Do, For, Break, Continue, Return, BlockItem, Declared, Asserted, Done, SwitchItem, Case, Default, Within, External, Defines, Declaring, Asserting, Tree}
 use Rattle.c_parser.specs.First.{IsFirst}
 use Rattle.c_parser.specs.Scopes.{Scope, predeclared}
@@ -9,7 +9,7 @@ use Rattle.c_parser.specs.Spelling.{spell_declarator}
 use Rattle.c_parser.specs.SpellingUnit.{spell_initializer, spell_item, spell_statement, spell_block_item, spell_switch_item, spell_external, spell_tree}
 use Rattle.c_parser.specs.WellFormed.{HasToken}
 use Rattle.c_parser.specs.WellFormedUnit.{IsInitializer, IsItem, IsStatement, IsBlockItem, IsSwitchItem, IsExternal, IsTree, AreExternals}
-use Rattle.c_parser.proofs.FirstLaws.{first_expr, first_declaration, first_specifiers}
+use Rattle.c_parser.proofs.FirstLaws.{first_expr, first_declaration}
 
 some_first : (begins : Bool) (scope : Scope) (all : List Spelled) → IsFirst begins scope all → all ≡ [] → ⊥
 some_first begins scope [] is e = is

@@ -1,21 +1,20 @@
 -- The rules at nodes just on either side of them.
-use Rattle.std.proofs.Common.{◌≡◌, ◌≤◌, ◌⊎◌, inl, inr, ℕ, Bool, true, false, List, [], ◌∷◌, ◌++◌, Option, Some, None, refl, arith}
+use Rattle.std.proofs.Common.{inl, inr, true, false, [], ◌∷◌, ◌++◌, None, refl, arith}
 use Rattle.std.specs.Prelude.{codes}
 use Rattle.critical_table.specs.declared.pos.Pos.{Pos}
 use Rattle.c_parser.specs.declared.operator.Arithmetic.TheVariants.{Multiply, Subtract}
 use Rattle.c_parser.specs.declared.operator.Infix.TheVariants as between
 use Rattle.c_parser.specs.declared.operator.Prefix.TheVariants.{Minus, SizeExpr}
-use Rattle.c_parser.specs.declared.operator.Measure.TheVariants.{SizeType}
 use Rattle.c_parser.specs.declared.specifier.BasicWord.TheVariants.{Int, Unsigned}
 use Rattle.c_parser.specs.declared.specifier.Qualifier.TheVariants as qualifier
-use Rattle.c_parser.specs.Tree.{Expr, Id, Paren, Call, Prefix', Measure', Cast, Infix', NoExpr, MoreExprs, With, Without, TypeName, Type', Specifiers, Qualifier', BasicWord', Enum, TypedefName, NoSpecifier, MoreSpecifiers, Enumerates, NoEnumerator, MoreEnumerators, Declarator, Omitted, Name, DParen, PointerTo, ArrayOf, FunctionOf, Param, Parameter, NoParameter, MoreParameters}
-use Rattle.c_parser.specs.TreeUnit.{Declaration, Statement, ExprStmt, If, IfElse, While, Do, Block, NoBlockItem}
-use Rattle.c_parser.specs.Levels.{expression, assignment, conditional}
+use Rattle.c_parser.specs.Tree.{Expr, Id, Call, Prefix', Cast, Infix', NoExpr, MoreExprs, Without, Type', Specifiers, Qualifier', BasicWord', Enum, TypedefName, NoSpecifier, MoreSpecifiers, Enumerates, NoEnumerator, MoreEnumerators, Omitted, Name, DParen, PointerTo, ArrayOf, FunctionOf, Param, NoParameter, MoreParameters}
+use Rattle.c_parser.specs.TreeUnit.{Statement, ExprStmt, If, IfElse, While, Do}
+use Rattle.c_parser.specs.Levels.{expression}
 use Rattle.c_parser.specs.Scopes.{Scope}
-use Rattle.c_parser.specs.WellFormed.{SpecifyOneType, IsExpr, IsTypeName, IsDeclarator, IsParameter}
+use Rattle.c_parser.specs.WellFormed.{SpecifyOneType, IsExpr, IsDeclarator, IsParameter}
 use Rattle.c_parser.specs.WellFormedUnit.{IsStatement}
 
-abbrev here : Pos
+abbrev pub here : Pos
 here = record { line = 1; column = 1 }
 
 -- a scope where T is a type, and one where an inner declaration hides it
@@ -65,7 +64,7 @@ assigned = (omega arith, (omega arith, refl), refl)
 pub assigned_sum : IsExpr (Infix' here between.Assign (minus a a) a) [] expression → ⊥
 assigned_sum is = omega (arith, is.1.0)
 
-abbrev int : Specifiers
+abbrev pub int : Specifiers
 int = MoreSpecifiers (BasicWord' here Int) NoSpecifier
 
 -- sizeof (int) * a is no cast under sizeof

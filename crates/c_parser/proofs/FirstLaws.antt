@@ -1,7 +1,6 @@
 -- One token tells expressions from declaration specifiers.
-use Rattle.std.proofs.Common.{◌≡◌, ◌⊎◌, inl, inr, ℕ, Bool, true, false, List, [], ◌∷◌, ◌++◌, Option, refl, arith}
+use Rattle.std.proofs.Common.{◌≡◌, inl, inr, ℕ, Bool, true, false, List, [], ◌∷◌, ◌++◌, Option, refl, arith}
 use Rattle.critical_table.specs.declared.pos.Pos.{Pos}
-use Rattle.c_lexer.specs.declared.token.Body.{Body}
 use Rattle.c_parser.specs.declared.expression.Constant.TheVariants as constant
 use Rattle.c_parser.specs.declared.operator.Prefix.{Prefix}
 use Rattle.c_parser.specs.declared.operator.Prefix.TheVariants as prefix

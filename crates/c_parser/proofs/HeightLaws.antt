@@ -1,5 +1,5 @@
 -- Each node has a height of at least 1.
-use Rattle.std.proofs.Common.{◌≡◌, ◌≤◌, ℕ, suc, max, List, [], ◌∷◌, Option, Some, None, refl, arith}
+use Rattle.std.proofs.Common.{◌≡◌, ◌≤◌, ℕ, suc, List, [], ◌∷◌, refl, arith}
 use Rattle.c_parser.specs.Tree.{Expr, Const, Id, Text, Paren, Index, Call, Member, Postfix', Prefix', Measure', Cast, Infix', Cond, TypeName, Type', Declarator, Omitted, Name, DParen, PointerTo, ArrayOf, FunctionOf}
 use Rattle.c_parser.specs.TreeUnit.{Initializer, Single, Braces, Statement, Block, ExprStmt, If, IfElse, Switch, While, Do, For, Break, Continue, Return, External, Defines, Declaring, Asserting, Tree}
 use Rattle.c_parser.specs.Height.{height, type_name_height, declarator_height}

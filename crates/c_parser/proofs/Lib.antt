@@ -6,3 +6,4 @@ pub mod HeightLaws
 pub mod Parts
 pub mod PartsUnit
 pub mod Rows
+pub mod UnitExamples

@@ -1,5 +1,5 @@
 -- The spelling of a node whose parts are lists, by these lists.
-use Rattle.std.proofs.Common.{◌≡◌, ℕ, Bool, List, [], ◌∷◌, ◌++◌, map, refl, ◌∙◌, ap, Vec, Global, Box, Option}
+use Rattle.std.proofs.Common.{◌≡◌, Bool, List, [], ◌∷◌, ◌++◌, map, refl, ◌∙◌, ap, Vec, Global, Box, Option}
 use Rattle.std.specs.List.{flat_map}
 use Rattle.critical_table.specs.declared.pos.Pos.{Pos}
 use Rattle.c_lexer.specs.declared.punct.Punct.TheVariants as punct
@@ -14,7 +14,6 @@ use Rattle.c_parser.specs.declared.specifier.Tag.{Tag}
 use Rattle.c_parser.specs.declared.specifier.MemberDeclaration as m
 use Rattle.c_parser.specs.declared.specifier.Enumerator as n
 use Rattle.c_parser.specs.declared.type_name.TypeName as t
-use Rattle.c_parser.specs.declared.spelled.Spelled.{Spelled}
 use Rattle.c_parser.specs.Tree as tree
 use Rattle.c_parser.specs.Operators.{measure_word, compound_word}
 use Rattle.c_parser.specs.Tokens.{commas, comma_if, ellipsis_if, mark, mark_at, word_at}

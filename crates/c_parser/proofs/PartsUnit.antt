@@ -13,8 +13,6 @@ use Rattle.c_parser.specs.declared.statement.Statement as s
 use Rattle.c_parser.specs.declared.statement.BlockItem as b
 use Rattle.c_parser.specs.declared.statement.SwitchItem as w'
 use Rattle.c_parser.specs.declared.unit.Function as u
-use Rattle.c_parser.specs.TreeUnit.{Items, NoItem, MoreItems, BlockItems, MoreBlockItems, SwitchItems, NoSwitchItem, MoreSwitchItems}
-use Rattle.c_parser.specs.TreeUnit as tree
 use Rattle.c_parser.specs.Tokens.{commas, comma_if, mark, mark_at, word_at}
 use Rattle.c_parser.specs.Spelling.{spell_specifier, spell_declarator}
 use Rattle.c_parser.specs.SpellingUnit.{spell_initializer, spell_item, spelled_items, spell_init_declarator, spell_declaration, spell_controlling, spell_statement, spell_block_item, spell_block_items, spell_switch_item, spell_switch_items, spell_function}

@@ -1,5 +1,5 @@
 -- The parts of a node as the program holds them, a row, and as a list.
-use Rattle.std.proofs.Common.{◌≡◌, List, [], ◌∷◌, map, refl, ◌∙◌, ap, sym}
+use Rattle.std.proofs.Common.{◌≡◌, map, refl, ◌∙◌, ap, sym}
 use Rattle.c_parser.specs.declared.expression.Expr as e
 use Rattle.c_parser.specs.declared.declarator.Declarator as d
 use Rattle.c_parser.specs.declared.specifier.Specifier as s

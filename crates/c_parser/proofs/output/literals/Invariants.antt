@@ -1,4 +1,4 @@
-use Rattle.std.proofs.Common.{◌≡◌, ◌∷◌, ◌++◌, map, take}
+use Rattle.std.proofs.Common.{◌≡◌, ◌++◌, map, take}
 use Rattle.c_lexer.specs.declared.token.Body.TheVariants as body
 use Rattle.c_parser.specs.Tokens.{bare}
 use Rattle.c_parser.proofs.output.literals.Given as goal
