@@ -1,6 +1,7 @@
 -- The tokens of initializers, declarations, statements and the unit: one clause for each node.
 use Rattle.std.specs.Prelude.{List, [], ◌∷◌, ◌++◌, map, Option, Some, None}
 use Rattle.std.specs.List.{flat_map}
+use Rattle.critical_table.specs.declared.pos.Pos.{Pos}
 use Rattle.c_lexer.specs.declared.punct.Punct.TheVariants as p
 use Rattle.c_lexer.specs.declared.word.Word.TheVariants as w
 use Rattle.c_parser.specs.declared.spelled.Spelled.{Spelled}
@@ -60,6 +61,11 @@ spell_for_init (WithExpression expr) = spell_optional expr ++ mark p.Semicolon �
 abbrev pub spell_controlling : Expr → List Spelled
 spell_controlling test = mark p.OpenParen ∷ spell test ++ mark p.CloseParen ∷ []
 
+abbrev pub spell_for_head : Pos → ForInit → Option Expr → Option Expr → List Spelled
+spell_for_head pos init test step =
+    word_at pos w.For ∷ mark p.OpenParen ∷ spell_for_init init
+    ++ spell_optional test ++ mark p.Semicolon ∷ spell_optional step ++ mark p.CloseParen ∷ []
+
 abbrev mutual
   -- 6.8
   pub spell_statement : Statement → List Spelled
@@ -74,9 +80,7 @@ abbrev mutual
   spell_statement (While pos test turn) = word_at pos w.While ∷ spell_controlling test ++ spell_statement turn
   spell_statement (Do pos turn test) =
       word_at pos w.Do ∷ spell_statement turn ++ word w.While ∷ spell_controlling test ++ mark p.Semicolon ∷ []
-  spell_statement (For pos init test step turn) =
-      word_at pos w.For ∷ mark p.OpenParen ∷ spell_for_init init
-      ++ spell_optional test ++ mark p.Semicolon ∷ spell_optional step ++ mark p.CloseParen ∷ spell_statement turn
+  spell_statement (For pos init test step turn) = spell_for_head pos init test step ++ spell_statement turn
   spell_statement (Break pos) = word_at pos w.Break ∷ mark p.Semicolon ∷ []
   spell_statement (Continue pos) = word_at pos w.Continue ∷ mark p.Semicolon ∷ []
   spell_statement (Return pos value) = word_at pos w.Return ∷ spell_optional value ++ mark p.Semicolon ∷ []

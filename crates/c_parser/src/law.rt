@@ -13,7 +13,7 @@ ghost use Rattle.c_parser.specs.Spelling.{spell, spell_type_name, spell_specifie
 ghost use Rattle.c_parser.specs.SpellingUnit.{spell_initializer, spell_item, spell_declaration, spell_statement, spell_block_item, spell_switch_item, spell_external, spell_tree};
 ghost use Rattle.c_parser.specs.Height.{height, type_name_height, declarator_height};
 ghost use Rattle.c_parser.specs.HeightUnit.{initializer_height, statement_height, external_height, tree_height};
-ghost use Rattle.c_parser.specs.WellFormed.{HasToken, SpecifyOneType, IsExpr, IsTypeName, AreSpecifiers, IsDeclarator, IsParameter, IsMember};
+ghost use Rattle.c_parser.specs.WellFormed.{HasToken, SpecifyOneType, IsExpr, IsTypeName, AreSpecifiers, IsParameter, IsMember};
 ghost use Rattle.c_parser.specs.WellFormedUnit.{IsInitializer, IsItem, IsDeclaration, IsStatement, IsBlockItem, IsSwitchItem, IsExternal, IsTree, IsWellFormed};
 
 /// One token tells an expression from a declaration: no expression begins with a word of a declaration specifier or a

@@ -1,4 +1,4 @@
-ghost use Rattle.std.specs.Prelude.{◌≡◌, ◌++◌, ◌∷◌, [], List, ℕ, Option, map, IfOk};
+ghost use Rattle.std.specs.Prelude.{◌≡◌, ◌++◌, ◌∷◌, [], IfOk};
 ghost use Rattle.c_parser.specs.Operators as operators;
 ghost use Rattle.c_parser.specs.Spelling as spelling;
 ghost use Rattle.c_parser.specs.Tokens as spec;
@@ -97,7 +97,11 @@ pub(crate) fn constant(out: &mut Output, pos: Pos, constant: Constant) -> Result
     }
 }
 
-pub(crate) fn prefix(out: &mut Output, pos: Pos, operator: Prefix) -> Result<(), AllocError>
+pub(crate) fn prefix_operator(
+    out: &mut Output,
+    pos: Pos,
+    operator: Prefix,
+) -> Result<(), AllocError>
     ensures { IfOk result (λ _. out.new.items ≡ out.old.items ++ spec.placed pos (operators.prefix_token operator) ∷ []) }
 {
     match operator {

@@ -2,22 +2,25 @@ ghost use Rattle.std.specs.Prelude.{◌≡◌, ◌++◌, ◌∷◌, [], map, IfO
 ghost use Rattle.std.specs.List.{flat_map};
 ghost use Rattle.c_parser.specs.Spelling as spec;
 ghost use Rattle.c_parser.specs.Tokens.{commas};
+ghost use Rattle.c_parser.specs.Tokens as tokens;
+ghost use Rattle.c_parser.specs.Tree as tree;
 ghost use Rattle.c_parser.specs.View as view;
 
 use crate::declarator::{Declarator, Parameter};
 use crate::expression::Expr;
+use crate::operator::{Access, Measure, Postfix, Prefix};
 use crate::output::{
-    Output, comma_if, constant, ellipsis_if, literals, mark, mark_at, name, name_at, placed,
-    prefix, qualifiers, tag, word, word_at,
+    Output, comma_if, constant, ellipsis_if, literals, mark, mark_at, name, name_at,
+    prefix_operator, qualifiers, tag, word_at,
 };
-use crate::specifier::{Enumerator, MemberDeclaration, Specifier, Tag};
+use crate::specifier::{Enumerator, MemberDeclaration, Specifier};
 use crate::type_name::TypeName;
 use crate::words::{
     access_token, basic_word, compound_word, infix_token, measure_word, postfix_token,
     qualifier_word, storage_word,
 };
 use c_lexer::{Punct, Word};
-use critical_table::Pos;
+use critical_table::{Name, Pos};
 use std::alloc::{AllocError, Global};
 
 #[cycle(spelling)]
@@ -28,16 +31,10 @@ pub(crate) fn expression(alloc: Global, out: &mut Output, expr: &Expr) -> Result
         Expr::Const(pos, value) => constant(out, *pos, *value),
         Expr::Id(pos, id) => name_at(alloc, out, *pos, id),
         Expr::Text(pos, text) => literals(alloc, out, Some(*pos), text),
-        Expr::Paren(inner) => {
-            mark(out, Punct::OpenParen)?;
-            expression(alloc, out, inner)?;
-            mark(out, Punct::CloseParen)
-        }
+        Expr::Paren(inner) => parenthesized(alloc, out, inner),
         Expr::Index(pos, array, index) => {
             expression(alloc, out, array)?;
-            mark_at(out, *pos, Punct::OpenBracket)?;
-            expression(alloc, out, index)?;
-            mark(out, Punct::CloseBracket)
+            subscript(alloc, out, *pos, index)
         }
         Expr::Call(pos, function, list) => {
             expression(alloc, out, function)?;
@@ -45,44 +42,130 @@ pub(crate) fn expression(alloc: Global, out: &mut Output, expr: &Expr) -> Result
             arguments(alloc, out, list.as_slice())?;
             mark(out, Punct::CloseParen)
         }
-        Expr::Member(pos, access, whole, member) => {
-            expression(alloc, out, whole)?;
-            mark_at(out, *pos, access_token(*access))?;
-            name(alloc, out, member)
-        }
-        Expr::Postfix(pos, operator, operand) => {
-            expression(alloc, out, operand)?;
-            mark_at(out, *pos, postfix_token(*operator))
-        }
-        Expr::Prefix(pos, operator, operand) => {
-            prefix(out, *pos, *operator)?;
-            expression(alloc, out, operand)
-        }
-        Expr::Measure(pos, operator, of) => {
-            word_at(out, *pos, measure_word(*operator))?;
-            mark(out, Punct::OpenParen)?;
-            type_name(alloc, out, of)?;
-            mark(out, Punct::CloseParen)
-        }
+        Expr::Member(pos, access, whole, id) => member_of(alloc, out, *pos, *access, whole, id),
+        Expr::Postfix(pos, operator, operand) => postfix(alloc, out, *pos, *operator, operand),
+        Expr::Prefix(pos, operator, operand) => prefix(alloc, out, *pos, *operator, operand),
+        Expr::Measure(pos, operator, of) => measure(alloc, out, *pos, *operator, of),
         Expr::Cast(pos, to, operand) => {
-            mark_at(out, *pos, Punct::OpenParen)?;
-            type_name(alloc, out, to)?;
-            mark(out, Punct::CloseParen)?;
+            cast_to(alloc, out, *pos, to)?;
             expression(alloc, out, operand)
         }
         Expr::Infix(pos, operator, left, right) => {
             expression(alloc, out, left)?;
-            mark_at(out, *pos, infix_token(*operator))?;
-            expression(alloc, out, right)
+            operand(alloc, out, *pos, infix_token(*operator), right)
         }
         Expr::Cond(pos, test, first, second) => {
             expression(alloc, out, test)?;
-            mark_at(out, *pos, Punct::Question)?;
-            expression(alloc, out, first)?;
+            operand(alloc, out, *pos, Punct::Question, first)?;
             mark(out, Punct::Colon)?;
             expression(alloc, out, second)
         }
     }
+}
+
+/// `( expression )`
+#[cycle(spelling)]
+pub(crate) fn parenthesized(alloc: Global, out: &mut Output, inner: &Expr) -> Result<(), AllocError>
+    ensures { IfOk result (λ _. out.new.items ≡ out.old.items ++ (tokens.mark Punct.OpenParen ∷ spec.spell (view.expr_of inner.now) ++ tokens.mark Punct.CloseParen ∷ [])) }
+{
+    mark(out, Punct::OpenParen)?;
+    expression(alloc, out, inner)?;
+    mark(out, Punct::CloseParen)
+}
+
+/// `[ index ]`
+#[cycle(spelling)]
+fn subscript(alloc: Global, out: &mut Output, pos: Pos, index: &Expr) -> Result<(), AllocError>
+    ensures { IfOk result (λ _. out.new.items ≡ out.old.items ++ (tokens.mark_at pos Punct.OpenBracket ∷ spec.spell (view.expr_of index.now) ++ tokens.mark Punct.CloseBracket ∷ [])) }
+{
+    mark_at(out, pos, Punct::OpenBracket)?;
+    expression(alloc, out, index)?;
+    mark(out, Punct::CloseBracket)
+}
+
+#[cycle(spelling)]
+fn member_of(
+    alloc: Global,
+    out: &mut Output,
+    pos: Pos,
+    access: Access,
+    whole: &Expr,
+    id: &Name,
+) -> Result<(), AllocError>
+    ensures { IfOk result (λ _. out.new.items ≡ out.old.items ++ spec.spell (tree.Member pos access (view.expr_of whole.now) id.now)) }
+{
+    expression(alloc, out, whole)?;
+    mark_at(out, pos, access_token(access))?;
+    name(alloc, out, id)
+}
+
+#[cycle(spelling)]
+fn postfix(
+    alloc: Global,
+    out: &mut Output,
+    pos: Pos,
+    operator: Postfix,
+    operand: &Expr,
+) -> Result<(), AllocError>
+    ensures { IfOk result (λ _. out.new.items ≡ out.old.items ++ spec.spell (tree.Postfix' pos operator (view.expr_of operand.now))) }
+{
+    expression(alloc, out, operand)?;
+    mark_at(out, pos, postfix_token(operator))
+}
+
+#[cycle(spelling)]
+fn prefix(
+    alloc: Global,
+    out: &mut Output,
+    pos: Pos,
+    operator: Prefix,
+    operand: &Expr,
+) -> Result<(), AllocError>
+    ensures { IfOk result (λ _. out.new.items ≡ out.old.items ++ spec.spell (tree.Prefix' pos operator (view.expr_of operand.now))) }
+{
+    prefix_operator(out, pos, operator)?;
+    expression(alloc, out, operand)
+}
+
+#[cycle(spelling)]
+fn measure(
+    alloc: Global,
+    out: &mut Output,
+    pos: Pos,
+    operator: Measure,
+    of: &TypeName,
+) -> Result<(), AllocError>
+    ensures { IfOk result (λ _. out.new.items ≡ out.old.items ++ spec.spell (tree.Measure' pos operator (view.type_name_of of.now))) }
+{
+    word_at(out, pos, measure_word(operator))?;
+    mark(out, Punct::OpenParen)?;
+    type_name(alloc, out, of)?;
+    mark(out, Punct::CloseParen)
+}
+
+/// `( type-name )` before an operand.
+#[cycle(spelling)]
+fn cast_to(alloc: Global, out: &mut Output, pos: Pos, to: &TypeName) -> Result<(), AllocError>
+    ensures { IfOk result (λ _. out.new.items ≡ out.old.items ++ (tokens.mark_at pos Punct.OpenParen ∷ spec.spell_type_name (view.type_name_of to.now) ++ tokens.mark Punct.CloseParen ∷ [])) }
+{
+    mark_at(out, pos, Punct::OpenParen)?;
+    type_name(alloc, out, to)?;
+    mark(out, Punct::CloseParen)
+}
+
+/// An operator, and the operand behind it.
+#[cycle(spelling)]
+fn operand(
+    alloc: Global,
+    out: &mut Output,
+    pos: Pos,
+    operator: Punct,
+    expr: &Expr,
+) -> Result<(), AllocError>
+    ensures { IfOk result (λ _. out.new.items ≡ out.old.items ++ tokens.mark_at pos operator ∷ spec.spell (view.expr_of expr.now)) }
+{
+    mark_at(out, pos, operator)?;
+    expression(alloc, out, expr)
 }
 
 #[cycle(spelling)]

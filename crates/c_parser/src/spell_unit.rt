@@ -2,7 +2,8 @@ ghost use Rattle.std.specs.Prelude.{◌≡◌, ◌++◌, ◌∷◌, [], map, IfO
 ghost use Rattle.std.specs.List.{flat_map};
 ghost use Rattle.std.specs.Option.{option_map};
 ghost use Rattle.c_parser.specs.SpellingUnit as spec;
-ghost use Rattle.c_parser.specs.Tokens.{commas, spell_pieces};
+ghost use Rattle.c_parser.specs.Tokens.{commas};
+ghost use Rattle.c_parser.specs.Tokens as tokens;
 ghost use Rattle.c_parser.specs.View.{expr_of};
 ghost use Rattle.c_parser.specs.ViewUnit as view;
 
@@ -10,11 +11,12 @@ use crate::declaration::{Assert, Declaration, InitDeclarator};
 use crate::expression::Expr;
 use crate::initializer::{Initializer, Item};
 use crate::output::{Output, comma_if, literals, mark, mark_at, name, word, word_at};
-use crate::spell_expression::{declarator, expression, specifiers};
+use crate::spell_expression::{declarator, expression, parenthesized, specifiers};
 use crate::spelled::Spelled;
 use crate::statement::{BlockItem, ForInit, Statement, SwitchItem};
 use crate::unit::{External, Function, Tree};
 use c_lexer::{Punct, Word};
+use critical_table::Pos;
 use std::alloc::{AllocError, Global};
 
 #[cycle(initializers)]
@@ -134,20 +136,66 @@ fn for_init(alloc: Global, out: &mut Output, init: &ForInit) -> Result<(), Alloc
 {
     match init {
         ForInit::Declaration(of) => declaration(alloc, out, of),
-        ForInit::Expression(expr) => {
-            optional(alloc, out, expr)?;
-            mark(out, Punct::Semicolon)
-        }
+        ForInit::Expression(expr) => evaluated(alloc, out, expr),
     }
 }
 
-/// `( expression )`
-fn controlling(alloc: Global, out: &mut Output, test: &Expr) -> Result<(), AllocError>
-    ensures { IfOk result (λ _. out.new.items ≡ out.old.items ++ spec.spell_controlling (expr_of test.now)) }
+/// `expression ;`
+fn evaluated(alloc: Global, out: &mut Output, expr: &Option<Expr>) -> Result<(), AllocError>
+    ensures { IfOk result (λ _. out.new.items ≡ out.old.items ++ (spec.spell_optional (option_map expr_of expr.now) ++ tokens.mark Punct.Semicolon ∷ [])) }
 {
+    optional(alloc, out, expr)?;
+    mark(out, Punct::Semicolon)
+}
+
+/// A word and the controlling expression behind it.
+fn head(
+    alloc: Global,
+    out: &mut Output,
+    pos: Pos,
+    first: Word,
+    test: &Expr,
+) -> Result<(), AllocError>
+    ensures { IfOk result (λ _. out.new.items ≡ out.old.items ++ tokens.word_at pos first ∷ spec.spell_controlling (expr_of test.now)) }
+{
+    word_at(out, pos, first)?;
+    parenthesized(alloc, out, test)
+}
+
+/// `for` and what stands in its parentheses.
+fn for_head(
+    alloc: Global,
+    out: &mut Output,
+    pos: Pos,
+    init: &ForInit,
+    test: &Option<Expr>,
+    step: &Option<Expr>,
+) -> Result<(), AllocError>
+    ensures { IfOk result (λ _. out.new.items ≡ out.old.items ++ spec.spell_for_head pos (view.for_init_of init.now) (option_map expr_of test.now) (option_map expr_of step.now)) }
+{
+    word_at(out, pos, Word::For)?;
     mark(out, Punct::OpenParen)?;
-    expression(alloc, out, test)?;
+    for_init(alloc, out, init)?;
+    evaluated(alloc, out, test)?;
+    optional(alloc, out, step)?;
     mark(out, Punct::CloseParen)
+}
+
+/// `while (test);` behind the body of a `do`.
+fn do_tail(alloc: Global, out: &mut Output, test: &Expr) -> Result<(), AllocError>
+    ensures { IfOk result (λ _. out.new.items ≡ out.old.items ++ (tokens.word Word.While ∷ spec.spell_controlling (expr_of test.now) ++ tokens.mark Punct.Semicolon ∷ [])) }
+{
+    word(out, Word::While)?;
+    parenthesized(alloc, out, test)?;
+    mark(out, Punct::Semicolon)
+}
+
+/// A word and a semicolon.
+fn jump(out: &mut Output, pos: Pos, first: Word) -> Result<(), AllocError>
+    ensures { IfOk result (λ _. out.new.items ≡ out.old.items ++ tokens.word_at pos first ∷ tokens.mark Punct.Semicolon ∷ []) }
+{
+    word_at(out, pos, first)?;
+    mark(out, Punct::Semicolon)
 }
 
 #[cycle(statements)]
@@ -155,70 +203,69 @@ fn statement(alloc: Global, out: &mut Output, of: &Statement) -> Result<(), Allo
     ensures { IfOk result (λ _. out.new.items ≡ out.old.items ++ spec.spell_statement (view.statement_of of.now)) }
 {
     match of {
-        Statement::Block(list) => {
-            mark(out, Punct::OpenBrace)?;
-            block_items(alloc, out, list.as_slice())?;
-            mark(out, Punct::CloseBrace)
-        }
-        Statement::ExprStmt(expr) => {
-            optional(alloc, out, expr)?;
-            mark(out, Punct::Semicolon)
-        }
+        Statement::Block(list) => block(alloc, out, list.as_slice()),
+        Statement::ExprStmt(expr) => evaluated(alloc, out, expr),
         Statement::If(pos, test, first, second) => {
-            word_at(out, *pos, Word::If)?;
-            controlling(alloc, out, test)?;
+            head(alloc, out, *pos, Word::If, test)?;
             statement(alloc, out, first)?;
             match second {
                 None => Ok(()),
-                Some(second) => {
-                    word(out, Word::Else)?;
-                    statement(alloc, out, second)
-                }
+                Some(second) => otherwise(alloc, out, second),
             }
         }
         Statement::Switch(pos, test, list) => {
-            word_at(out, *pos, Word::Switch)?;
-            controlling(alloc, out, test)?;
-            mark(out, Punct::OpenBrace)?;
-            switch_items(alloc, out, list.as_slice())?;
-            mark(out, Punct::CloseBrace)
+            head(alloc, out, *pos, Word::Switch, test)?;
+            switch_block(alloc, out, list.as_slice())
         }
         Statement::While(pos, test, turn) => {
-            word_at(out, *pos, Word::While)?;
-            controlling(alloc, out, test)?;
+            head(alloc, out, *pos, Word::While, test)?;
             statement(alloc, out, turn)
         }
         Statement::Do(pos, turn, test) => {
             word_at(out, *pos, Word::Do)?;
             statement(alloc, out, turn)?;
-            word(out, Word::While)?;
-            controlling(alloc, out, test)?;
-            mark(out, Punct::Semicolon)
+            do_tail(alloc, out, test)
         }
         Statement::For(pos, init, test, step, turn) => {
-            word_at(out, *pos, Word::For)?;
-            mark(out, Punct::OpenParen)?;
-            for_init(alloc, out, init)?;
-            optional(alloc, out, test)?;
-            mark(out, Punct::Semicolon)?;
-            optional(alloc, out, step)?;
-            mark(out, Punct::CloseParen)?;
+            for_head(alloc, out, *pos, init, test, step)?;
             statement(alloc, out, turn)
         }
-        Statement::Break(pos) => {
-            word_at(out, *pos, Word::Break)?;
-            mark(out, Punct::Semicolon)
-        }
-        Statement::Continue(pos) => {
-            word_at(out, *pos, Word::Continue)?;
-            mark(out, Punct::Semicolon)
-        }
+        Statement::Break(pos) => jump(out, *pos, Word::Break),
+        Statement::Continue(pos) => jump(out, *pos, Word::Continue),
         Statement::Return(pos, value) => {
             word_at(out, *pos, Word::Return)?;
-            optional(alloc, out, value)?;
-            mark(out, Punct::Semicolon)
+            evaluated(alloc, out, value)
         }
     }
+}
+
+/// `else statement`
+#[cycle(statements)]
+fn otherwise(alloc: Global, out: &mut Output, second: &Statement) -> Result<(), AllocError>
+    ensures { IfOk result (λ _. out.new.items ≡ out.old.items ++ tokens.word Word.Else ∷ spec.spell_statement (view.statement_of second.now)) }
+{
+    word(out, Word::Else)?;
+    statement(alloc, out, second)
+}
+
+/// `{ items }`
+#[cycle(statements)]
+fn block(alloc: Global, out: &mut Output, list: &[BlockItem]) -> Result<(), AllocError>
+    ensures { IfOk result (λ _. out.new.items ≡ out.old.items ++ (tokens.mark Punct.OpenBrace ∷ flat_map (λ i. spec.spell_block_item (view.block_item_of i)) list.now ++ tokens.mark Punct.CloseBrace ∷ [])) }
+{
+    mark(out, Punct::OpenBrace)?;
+    block_items(alloc, out, list)?;
+    mark(out, Punct::CloseBrace)
+}
+
+/// `{ items }`
+#[cycle(statements)]
+fn switch_block(alloc: Global, out: &mut Output, list: &[SwitchItem]) -> Result<(), AllocError>
+    ensures { IfOk result (λ _. out.new.items ≡ out.old.items ++ (tokens.mark Punct.OpenBrace ∷ flat_map (λ i. spec.spell_switch_item (view.switch_item_of i)) list.now ++ tokens.mark Punct.CloseBrace ∷ [])) }
+{
+    mark(out, Punct::OpenBrace)?;
+    switch_items(alloc, out, list)?;
+    mark(out, Punct::CloseBrace)
 }
 
 #[cycle(statements)]
@@ -275,9 +322,7 @@ fn function(alloc: Global, out: &mut Output, of: &Function) -> Result<(), AllocE
 {
     specifiers(alloc, out, of.specifiers.as_slice())?;
     declarator(alloc, out, &of.declarator)?;
-    mark(out, Punct::OpenBrace)?;
-    block_items(alloc, out, of.body.as_slice())?;
-    mark(out, Punct::CloseBrace)
+    block(alloc, out, of.body.as_slice())
 }
 
 fn external(alloc: Global, out: &mut Output, of: &External) -> Result<(), AllocError>

@@ -10,13 +10,13 @@ expression-returns-in_ok-arguments-in-Call t c =
     let e = ap (λ x. spell (expr_of x)) c.in-Call.is ∙ spells_call c.in-Call.pos c.in-Call.function c.in-Call.list in
     rw e (search (rules, IfOk-equal, append_assoc))
 
-pub expression-returns-in_ok-type_name-in-Measure : goal.expression-returns-in_ok-type_name-in-Measure
-expression-returns-in_ok-type_name-in-Measure t c =
+pub expression-returns-in-Measure : goal.expression-returns-in-Measure
+expression-returns-in-Measure t c =
     let e = ap (λ x. spell (expr_of x)) c.in-Measure.is ∙ spells_measure c.in-Measure.pos c.in-Measure.operator c.in-Measure.of in
     rw e (search (rules, IfOk-equal, append_assoc))
 
-pub expression-returns-in_ok-mark-in-Cast : goal.expression-returns-in_ok-mark-in-Cast
-expression-returns-in_ok-mark-in-Cast t c =
+pub expression-returns-in_ok-cast_to-in-Cast : goal.expression-returns-in_ok-cast_to-in-Cast
+expression-returns-in_ok-cast_to-in-Cast t c =
     let e = ap (λ x. spell (expr_of x)) c.in-Cast.is ∙ spells_cast c.in-Cast.pos c.in-Cast.to c.in-Cast.operand in
     rw e (search (rules, IfOk-equal, append_assoc))
 

@@ -5,15 +5,12 @@ use Rattle.c_parser.specs.ViewUnit.{statement_of}
 use Rattle.c_parser.proofs.PartsUnit.{spells_block, spells_switch}
 use Rattle.c_parser.proofs.spell_unit.+statements.Goals as goal
 
-pub statement-returns-in_ok-block_items-in-Block : goal.statement-returns-in_ok-block_items-in-Block
-statement-returns-in_ok-block_items-in-Block t c =
+pub statement-returns-in-Block : goal.statement-returns-in-Block
+statement-returns-in-Block t c =
     let e = ap (λ x. spell_statement (statement_of x)) c.in-Block.is ∙ spells_block c.in-Block.list in
     rw e (search (rules, IfOk-equal, append_assoc))
 
-pub statement-returns-in_ok-switch_items-in-Switch : goal.statement-returns-in_ok-switch_items-in-Switch
-statement-returns-in_ok-switch_items-in-Switch t c =
+pub statement-returns-in_ok-head-in-Switch : goal.statement-returns-in_ok-head-in-Switch
+statement-returns-in_ok-head-in-Switch t c =
     let e = ap (λ x. spell_statement (statement_of x)) c.in-Switch.is ∙ spells_switch c.in-Switch.pos c.in-Switch.test c.in-Switch.list in
     rw e (search (rules, IfOk-equal, append_assoc))
-
-pub statement-returns-in_ok-mark-in-For-3 : goal.statement-returns-in_ok-mark-in-For-3
-statement-returns-in_ok-mark-in-For-3 t c = search (rules, IfOk-equal, append_assoc)
