@@ -14,4 +14,12 @@ pub mod PragmaLaws
 pub mod ShapeLaws
 pub mod TokenLaws
 pub mod SpellingLaws
+pub mod Leads
+pub mod WordPart
+pub mod NumberPart
+pub mod QuotePart
+pub mod CommentPart
+pub mod LinePart
+pub mod MarkPart
+pub mod SplitLaws
 pub mod Examples
