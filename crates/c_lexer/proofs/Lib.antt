@@ -14,6 +14,7 @@ pub mod PragmaLaws
 pub mod ShapeLaws
 pub mod TokenLaws
 pub mod SpellingLaws
+pub mod PlaceLaws
 pub mod Leads
 pub mod WordPart
 pub mod NumberPart

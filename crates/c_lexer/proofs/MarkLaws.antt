@@ -3,14 +3,16 @@ use Rattle.std.proofs.Common.{◌≡◌, inl, inr, ℕ, ◌≤◌, List, [], ◌
 use Rattle.std.proofs.lemmas.Bool.{and_parts, leb-true, false≢true}
 use Rattle.std.proofs.lemmas.Bool.Decides.{Decides-eqb}
 use Rattle.std.proofs.lemmas.Slice.Eq.{bytes_eq-Decides, starts_is}
-use Rattle.std.specs.Prelude.{Option, Some, None, IfSome, IfNone, nat_eq, nat_le}
+use Rattle.std.specs.Prelude.{Option, Some, None, is_some, IfSome, IfNone, nat_eq, nat_le}
 use Rattle.std.specs.List.{starts_with, AllByRecursion}
 use Rattle.std.specs.Str.{bytes_eq}
 use Rattle.c_lexer.specs.declared.punct.Punct.{Punct}
 use Rattle.c_lexer.specs.declared.punct.Punct.TheVariants as p
+use Rattle.c_lexer.specs.Lookup.{lookup}
 use Rattle.c_lexer.specs.Marks.{mark_text, marks, IsLongestMark}
 use Rattle.c_lexer.specs.ReadMark.{first_of, measured, mark_at}
 use Rattle.c_lexer.proofs.Cases.{either, none_found}
+use Rattle.c_lexer.proofs.Tables.{lookup_sound}
 
 -- rows of no shorter texts, and then one of this text
 abbrev reaches : List (List ℕ × Punct) → List ℕ → Bool
@@ -90,6 +92,19 @@ each_reached p.AmpersandAssign = refl
 each_reached p.CaretAssign = refl
 each_reached p.BarAssign = refl
 each_reached p.Comma = refl
+
+short_rows : AllByRecursion (λ row. nat_le (length row.0) 3 ≡ true) marks
+short_rows = (refl, (refl, (refl, (refl, (refl, (refl, (refl, (refl, (refl, (refl, (refl, (refl, (refl, (refl, (refl, (refl, (refl, (refl, (refl, (refl, (refl, (refl, (refl, (refl, (refl, (refl, (refl, (refl, (refl, (refl, (refl, (refl, (refl, (refl, (refl, (refl, (refl, (refl, (refl, (refl, (refl, (refl, (refl, (refl, (refl, (refl, tt))))))))))))))))))))))))))))))))))))))))))))))
+
+mark_short_at : (text : List ℕ) (found : Option Punct) → lookup marks text ≡ found → 4 ≤ length text → is_some found ≡ false
+mark_short_at text None at long = refl
+mark_short_at text (Some mark) at long =
+    let short : length text ≤ 3 = leb-true (length text) 3 (lookup_sound (λ t x. nat_le (length t) 3 ≡ true) marks text mark short_rows at) in
+    absurd (omega arith)
+
+-- no mark is longer than three bytes
+pub mark_short : (text : List ℕ) → 4 ≤ length text → is_some (lookup marks text) ≡ false
+mark_short text long = mark_short_at text (lookup marks text) refl long
 
 begins : (bytes key after : List ℕ) → bytes ≡ key ++ after → starts_with nat_eq bytes key ≡ true
 begins bytes key after h = (starts_is Decides-eqb bytes key (starts_with nat_eq bytes key) refl).1 after h

@@ -16,3 +16,6 @@ pub mod Numbers
 pub mod ReadNumber
 pub mod Characters
 pub mod ReadCharacters
+pub mod ReadPart
+pub mod Placed
+pub mod Reading

@@ -59,7 +59,7 @@ pub(crate) fn past_quote(quote: u8, bytes: &[u8]) -> Option<&[u8]>
 }
 
 /// A sign may follow: e, E, p or P.
-fn is_exponent(byte: u8) -> bool
+pub(crate) fn is_exponent(byte: u8) -> bool
     ensures { result ≡ is_exponent byte }
 {
     byte == b'e' || byte == b'E' || byte == b'p' || byte == b'P'
@@ -79,7 +79,7 @@ pub(crate) fn number_len(bytes: &[u8]) -> usize
     count
 }
 
-fn goes_on(sign: bool, byte: u8) -> bool
+pub(crate) fn goes_on(sign: bool, byte: u8) -> bool
     ensures { result ≡ (is_word_byte byte || byte == 46 || (sign && (byte == 43 || byte == 45))) }
 {
     is_in(Class::Word, byte) || byte == b'.' || (sign && (byte == b'+' || byte == b'-'))

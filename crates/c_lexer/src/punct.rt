@@ -1,7 +1,11 @@
-ghost use Rattle.std.specs.Prelude.{◌≡◌, ℕ, List, ◌++◌, map, length, IfSome, IfNone};
-ghost use Rattle.c_lexer.specs.Marks.{mark_text, IsLongestMark};
+ghost use Rattle.std.specs.Prelude.{◌≡◌, ℕ, List, ◌++◌, map, length, is_some, IfSome, IfNone};
+ghost use Rattle.c_lexer.specs.Lookup.{lookup};
+ghost use Rattle.c_lexer.specs.Marks.{mark_text, marks, IsLongestMark};
+ghost use Rattle.c_lexer.specs.ReadPart.{extends};
 ghost use Rattle.c_lexer.specs.ReadMark as spec;
 ghost use Rattle.c_lexer.specs.declared.punct.Punct.{Punct};
+
+use crate::table::lookup;
 
 /// The punctuators (6.4.6) that are taken.
 #[derive(Clone, Copy, Debug, PartialEq, Eq)]
@@ -149,6 +153,25 @@ const MARKS: [(&[u8], Punct); 46] = [
     (b"=", Punct::Assign),
     (b",", Punct::Comma),
 ];
+
+fn is_mark(text: &[u8]) -> bool
+    ensures { result ≡ is_some (lookup marks text.now) }
+{
+    lookup(&MARKS, text).is_some()
+}
+
+/// Whether the text and the byte behind it spell a punctuator.
+#[tactic(auto, unfolding(crate::specs::ReadPart::extends))]
+pub(crate) fn extends(text: &[u8], byte: u8) -> bool
+    ensures { result ≡ extends text.now byte }
+{
+    match text {
+        [] => is_mark(&[byte]),
+        [first] => is_mark(&[*first, byte]),
+        [first, second] => is_mark(&[*first, *second, byte]),
+        _ => false,
+    }
+}
 
 fn find(mut rows: &[(&[u8], Punct)], bytes: &[u8]) -> Option<(Punct, usize)>
     ensures { result ≡ spec.measured (spec.first_of (map (λ row. (row.0.now, row.1)) rows.entry.now) bytes.now) }
