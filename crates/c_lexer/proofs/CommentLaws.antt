@@ -6,7 +6,7 @@ use Rattle.std.specs.Borrow.{Bor}
 use Rattle.std.specs.Option.{option_copied}
 use Rattle.c_lexer.specs.Comments.{NoClose, IsInner}
 use Rattle.c_lexer.specs.ReadComment.{past_close, past_quote}
-use Rattle.c_lexer.proofs.Cases.{chosen, neq-eqb, none_found}
+use Rattle.c_lexer.proofs.Cases.{chosen, not_true, neq-eqb, none_found}
 
 -- the text up to the first `*/`
 pub record Closed (bytes after : List ℕ) : Type 0 where
@@ -50,6 +50,20 @@ close_sound (byte ∷ bytes) after h =
       | inl a ↦ (let both = and_parts (byte == 42) (slice_index bytes 0 == 47) a.0 in closed_here byte bytes after both.0 both.1 (let e = a.1 in cc))
       | inr a ↦ closed_later byte bytes after a.0 (close_sound bytes after a.1)
     ]
+
+-- no `*/` begins in a body before the one that ends it
+no_close_here : (byte : ℕ) (body after : List ℕ) → NoClose (byte ∷ (body ++ (42 ∷ []))) → (byte == 42 && slice_index (body ++ (42 ∷ 47 ∷ after)) 0 == 47) ≡ true → ⊥
+no_close_here byte [] after first h = false≢true (and_parts (byte == 42) false h).1
+no_close_here byte (c ∷ body) after first h =
+    let both = and_parts (byte == 42) (c == 47) h in
+    let one : byte ≡ 42 = eqb-true byte 42 both.0 in
+    let two : c ≡ 47 = eqb-true c 47 both.1 in
+    first [] (body ++ (42 ∷ [])) (cc)
+
+pub close_full : (body after : List ℕ) → NoClose (body ++ (42 ∷ [])) → past_close (body ++ (42 ∷ 47 ∷ after)) ≡ Some after
+close_full [] after first = refl
+close_full (byte ∷ body) after first =
+    rw (not_true _ (no_close_here byte body after first)) (close_full body after (λ before rest e. first (byte ∷ before) rest (ap (λ t. byte ∷ t) e)))
 
 -- where none is found there is none
 pub close_none : (bytes : List ℕ) → past_close bytes ≡ None → NoClose bytes
