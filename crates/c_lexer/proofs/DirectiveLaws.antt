@@ -80,7 +80,7 @@ solid_ends : (last : List ℕ) → list_all is_blank last ≡ true → prefix_le
 solid_ends [] h = refl
 solid_ends (b ∷ last) h = ap (λ t. cond (not t) (1 + prefix_len (is_in class.Solid) last) 0) (and_parts (is_blank b) (list_all is_blank last) h).0
 
-among : (P : List ℕ → Type 0) (words : List (List ℕ)) (text : List ℕ) → AllByRecursion P words → list_any (λ word. bytes_eq word text) words ≡ true → P text
+pub among : (P : List ℕ → Type 0) (words : List (List ℕ)) (text : List ℕ) → AllByRecursion P words → list_any (λ word. bytes_eq word text) words ≡ true → P text
 among P [] text all h = absurd (false≢true h)
 among P (word ∷ words) text all h =
     elim (either (bytes_eq word text) (list_any (λ w. bytes_eq w text) words) h)

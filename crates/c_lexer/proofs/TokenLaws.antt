@@ -130,7 +130,7 @@ mark_tag p.CaretAssign = refl
 mark_tag p.BarAssign = refl
 mark_tag p.Comma = refl
 
-mark_full : (mark : Punct) → lookup marks (mark_text mark) ≡ Some mark
+pub mark_full : (mark : Punct) → lookup marks (mark_text mark) ≡ Some mark
 mark_full p.OpenBracket = refl
 mark_full p.CloseBracket = refl
 mark_full p.OpenParen = refl
