@@ -14,6 +14,8 @@ pub mod PragmaLaws
 pub mod ShapeLaws
 pub mod TokenLaws
 pub mod SpellingLaws
+pub mod OpenLaws
+pub mod EndLaws
 pub mod PlaceLaws
 pub mod Leads
 pub mod WordPart

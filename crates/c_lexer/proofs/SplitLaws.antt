@@ -5,6 +5,7 @@ use Rattle.critical_table.specs.declared.pos.Pos.{Pos}
 use Rattle.critical_table.specs.declared.refusal.Refusal.{Refusal}
 use Rattle.critical_table.specs.declared.refusal.Refusal.TheVariants.{Size, Char, Unclosed, Literal, Directive, Profile, Syntax, Deep, Constraint}
 use Rattle.c_lexer.specs.declared.punct.Punct.{Punct}
+use Rattle.c_lexer.specs.declared.place.Place.{Place}
 use Rattle.c_lexer.specs.declared.token.Body.{Body}
 use Rattle.c_lexer.specs.declared.token.Body.TheVariants as body
 use Rattle.c_lexer.specs.Stream.{Stream}
@@ -13,7 +14,7 @@ use Rattle.c_lexer.specs.Marks.{mark_text, marks}
 use Rattle.c_lexer.specs.Comments.{IsBlockComment, IsLineComment}
 use Rattle.c_lexer.specs.Parts.{Part, White, Spelled, part_text, IsToken, IsWhite, IsPart}
 use Rattle.c_lexer.specs.Rows.{IsFirstRow}
-use Rattle.c_lexer.specs.Lexing.{Place, start, place_behind, place_after, tokens_of, Stands, Splits, AreTokens, IsRefused}
+use Rattle.c_lexer.specs.Lexing.{start, place_behind, place_after, tokens_of, Stands, Splits, AreTokens, IsRefused}
 use Rattle.c_lexer.proofs.Cases.{none_found}
 use Rattle.c_lexer.proofs.TokenLaws.{mark_full, one_token}
 use Rattle.c_lexer.proofs.Leads.{Lead, Quoted, Letter, Digit, Comment, Hash, Space, Other, lead, Admits, admitted}

@@ -17,5 +17,6 @@ pub mod ReadNumber
 pub mod Characters
 pub mod ReadCharacters
 pub mod ReadPart
+pub mod Open
 pub mod Placed
 pub mod Reading

@@ -1,31 +1,20 @@
 -- What a reader knows of the bytes that it was fed: the parts that ended, and the one that is open.
-use Rattle.std.specs.Prelude.{◌≡◌, ◌≢◌, ◌⊎◌, ℕ, ◌+◌, ◌<◌, ◌≤◌, ◌==◌, ◌&&◌, Bool, true, false, List, [], ◌∷◌, ◌++◌, codes, length, slice_index, drop, Option, Some, None, if◌then◌else◌}
-use Rattle.std.specs.List.{list_all}
+use Rattle.std.specs.Prelude.{◌≡◌, ◌+◌, ℕ, Bool, true, List, [], ◌∷◌, ◌++◌, length, Option, Some, None}
 use Rattle.critical_table.specs.declared.pos.Pos.{Pos}
 use Rattle.critical_table.specs.declared.refusal.Refusal.{Refusal}
 use Rattle.critical_table.specs.declared.refusal.Refusal.TheVariants.{Char, Unclosed, Literal, Directive, Profile}
-use Rattle.c_lexer.specs.declared.bytes.Class.TheVariants.{Line}
 use Rattle.c_lexer.specs.declared.ending.Ending.{Ending}
 use Rattle.c_lexer.specs.declared.ending.Ending.TheVariants as ending
 use Rattle.c_lexer.specs.declared.mode.Mode.{Mode}
 use Rattle.c_lexer.specs.declared.mode.Mode.TheVariants as mode
 use Rattle.c_lexer.specs.declared.place.Place.{Place}
-use Rattle.c_lexer.specs.declared.punct.Punct.{Punct}
-use Rattle.c_lexer.specs.declared.punct.Punct.TheVariants as p
 use Rattle.c_lexer.specs.declared.reader.Reader.{Reader}
 use Rattle.c_lexer.specs.declared.token.Token.{Token}
 use Rattle.c_lexer.specs.declared.token.Body.{Body}
-use Rattle.c_lexer.specs.Bytes.{is_letter, is_word_byte, is_white, is_quote}
-use Rattle.c_lexer.specs.Characters.{opening}
-use Rattle.c_lexer.specs.Classes.{is_in}
-use Rattle.c_lexer.specs.Comments.{IsLineComment, IsBlockComment, IsInner}
 use Rattle.c_lexer.specs.Directives.{IsDirective}
 use Rattle.c_lexer.specs.Lexing.{start, tokens_of, place_after, place_behind, Splits, IsRefused}
-use Rattle.c_lexer.specs.Marks.{mark_text}
+use Rattle.c_lexer.specs.Open.{IsOpen}
 use Rattle.c_lexer.specs.Parts.{Part, White, Spelled, IsToken}
-use Rattle.c_lexer.specs.ReadComment.{past_close, past_quote}
-use Rattle.c_lexer.specs.ReadPart.{byte_of, first}
-use Rattle.c_lexer.specs.Rows.{number_len, begins_number}
 
 pub record Reading : Type 0 where
   pub tokens : List Token
@@ -72,9 +61,6 @@ Spells why text ending.White = ⊥
 Spells why text (ending.Token body) = IsToken text body
 Spells why text (ending.Refused reason) = (reason ≡ why) × ((token : Body) → IsToken text token → ⊥)
 
-abbrev pub IsOnly : Ending → Ending → Type 0
-IsOnly one found = found ≡ one
-
 abbrev pub IsLine : List ℕ → Ending → Type 0
 IsLine text ending.White = IsDirective text
 IsLine text (ending.Token body) = ⊥
@@ -105,3 +91,35 @@ Closes (Some here) before after = (end : Ending) × Ends here before.text end ×
 -- how far a reader has come, with the open part
 abbrev pub reach : Reading → ℕ
 reach r = r.place.at + length r.text
+
+-- what comes behind the bytes so far: anything, this byte and anything, or nothing
+pub data Ahead : Type 0 where
+  Anything : Ahead
+  Byte : ℕ → Ahead
+  End : Ahead
+
+abbrev pub Follows : Ahead → List ℕ → Type 0
+Follows Anything rest = Unit {0}
+Follows (Byte byte) rest = (after : List ℕ) × (rest ≡ byte ∷ after)
+Follows End rest = rest ≡ []
+
+-- nothing is open, or a part is
+abbrev pub IsOpenPart : Bool → Option Mode → List ℕ → Type 0
+IsOpenPart fresh None text = text ≡ []
+IsOpenPart fresh (Some here) text = IsOpen fresh here text
+
+-- the bytes are parts that stand, whatever of this comes behind them, and the open part
+pub record Stood (ahead : Ahead) (r : Reading) (bytes : List ℕ) : Type 0 where
+  pub parts : List Part
+  pub split : (rest : List ℕ) → Follows ahead rest → Splits true (bytes ++ rest) parts (r.text ++ rest)
+  pub tokens : r.tokens ≡ tokens_of start parts
+  pub place : r.place ≡ place_after start parts
+  pub part : IsOpenPart r.place.fresh r.mode r.text
+
+abbrev pub IsReadOr : Option (Refusal × Pos) → Ahead → Reading → List ℕ → Type 0
+IsReadOr None ahead r bytes = Stood ahead r bytes
+IsReadOr (Some found) ahead r bytes = (rest : List ℕ) → Follows ahead rest → IsRefused (bytes ++ rest) found.0 found.1
+
+-- the bytes were read so far, or are refused, whatever of this comes behind them
+abbrev pub IsRead : Ahead → Reading → List ℕ → Type 0
+IsRead ahead r bytes = IsReadOr r.refused ahead r bytes
