@@ -11,7 +11,7 @@ pub either : (x y : Bool) → (x || y) ≡ true → (x ≡ true) ⊎ (y ≡ true
 either true y h = inl refl
 either false y h = inr h
 
-not_true : (b : Bool) → (b ≡ true → ⊥) → b ≡ false
+pub not_true : (b : Bool) → (b ≡ true → ⊥) → b ≡ false
 not_true true h = absurd (h refl)
 not_true false h = refl
 

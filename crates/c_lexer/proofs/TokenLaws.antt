@@ -130,7 +130,7 @@ mark_tag p.CaretAssign = refl
 mark_tag p.BarAssign = refl
 mark_tag p.Comma = refl
 
-mark_full : (mark : Punct) → lookup marks (mark_text mark) ≡ Some mark
+pub mark_full : (mark : Punct) → lookup marks (mark_text mark) ≡ Some mark
 mark_full p.OpenBracket = refl
 mark_full p.CloseBracket = refl
 mark_full p.OpenParen = refl
@@ -190,7 +190,7 @@ no_word : (text : List ℕ) (o : Option Word) → word_of text ≡ o → ((word 
 no_word text None at none = refl
 no_word text (Some word) at none = absurd (none word (word_sound text word at))
 
-and_last : (a b : Bool) → b ≡ false → (a && b) ≡ false
+pub and_last : (a b : Bool) → b ≡ false → (a && b) ≡ false
 and_last true b h = h
 and_last false b h = refl
 
@@ -238,7 +238,7 @@ first_digit Hexadecimal text number c no_hex = absurd (no_hex refl)
 first_digit Decimal text number c no_hex = ap (λ t. is_ascii_digit (slice_index t 0)) c.parts ∙ decimal_first c.digits c.suffix c.some c.each
 first_digit Octal text number c no_hex = ap (λ t. is_ascii_digit (slice_index t 0)) c.parts ∙ octal_first c.digits c.suffix c.some c.each
 
-number_first : (base : Base) (before after text : List ℕ) (number : Number) → text ≡ before ++ after → IsPrefix base before → IsConstant base after number → is_ascii_digit (slice_index text 0) ≡ true
+pub number_first : (base : Base) (before after text : List ℕ) (number : Number) → text ≡ before ++ after → IsPrefix base before → IsConstant base after number → is_ascii_digit (slice_index text 0) ≡ true
 number_first Decimal before after text number parts prefix c = ap (λ t. is_ascii_digit (slice_index t 0)) (parts ∙ ap (λ b. b ++ after) prefix) ∙ first_digit Decimal after number c (λ e. cc)
 number_first Octal before after text number parts prefix c = ap (λ t. is_ascii_digit (slice_index t 0)) (parts ∙ ap (λ b. b ++ after) prefix) ∙ first_digit Octal after number c (λ e. cc)
 number_first Hexadecimal before after text number parts (inl e) c = ap (λ t. is_ascii_digit (slice_index t 0)) (parts ∙ ap (λ b. b ++ after) e)
