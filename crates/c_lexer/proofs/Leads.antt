@@ -79,7 +79,7 @@ Admits Other (Spelled text token) = (mark : Punct) × (token ≡ body.Mark mark)
 other_byte : (class : ℕ → Bool) (value byte : ℕ) → class value ≡ false → class byte ≡ true → (byte == value) ≡ false
 other_byte class value byte outside inside = neq-eqb byte value (λ (e : byte ≡ value). false≢true (sym outside ∙ (ap class (sym e) ∙ inside)))
 
-pub no_quote_in : (class : ℕ → Bool) (byte : ℕ) → class 34 ≡ false → class 39 ≡ false → class byte ≡ true → is_quote byte ≡ false
+no_quote_in : (class : ℕ → Bool) (byte : ℕ) → class 34 ≡ false → class 39 ≡ false → class byte ≡ true → is_quote byte ≡ false
 no_quote_in class byte double single inside = or_from _ _ (other_byte class 34 byte double inside) (other_byte class 39 byte single inside)
 
 pub quoted_lead : (wide : Bool) (quote : ℕ) (bytes rest : List ℕ) → is_quote quote ≡ true → bytes ≡ opening wide ++ (quote ∷ rest) → lead bytes ≡ Quoted
@@ -93,6 +93,9 @@ run_lead bytes letter = rw (no_quote_in is_letter (slice_index bytes 0) refl ref
 
 pub letter_lead : (bytes : List ℕ) → is_letter (slice_index bytes 0) ≡ true → (slice_index bytes 0 == 76 && is_quote (slice_index bytes 1)) ≡ false → lead bytes ≡ Letter
 letter_lead bytes letter unquoted = run_lead bytes letter ∙ ap (λ t. cond t Quoted Letter) unquoted
+
+pub longer_lead : (a b : ℕ) (bytes : List ℕ) → is_letter a ≡ true → is_word_byte b ≡ true → lead (a ∷ b ∷ bytes) ≡ Letter
+longer_lead a b bytes letter word = letter_lead (a ∷ b ∷ bytes) letter (and_last (a == 76) (is_quote b) (no_quote_in is_word_byte b refl refl word))
 
 digit_no_letter : (byte : ℕ) → is_ascii_digit byte ≡ true → is_letter byte ≡ false
 digit_no_letter byte digit = not_true (is_letter byte) (λ letter. grind (arith, letter, digit))
@@ -141,8 +144,7 @@ run_admitted (a ∷ []) after token letter each =
     subst (λ l. Admits l (Spelled (a ∷ []) token)) (sym (run_lead (a ∷ after) letter)) (single_admits (a == 76 && is_quote (slice_index after 0)) a token (and_parts _ _ each).0)
 run_admitted (a ∷ b ∷ text) after token letter each =
     let second = and_parts (is_word_byte b) (list_all is_word_byte text) (and_parts (is_word_byte a) (list_all is_word_byte (b ∷ text)) each).1 in
-    let unquoted = and_last (a == 76) (is_quote b) (no_quote_in is_word_byte b refl refl second.0) in
-    subst (λ l. Admits l (Spelled (a ∷ b ∷ text) token)) (sym (letter_lead (a ∷ b ∷ (text ++ after)) letter unquoted)) each
+    subst (λ l. Admits l (Spelled (a ∷ b ∷ text) token)) (sym (longer_lead a b (text ++ after) letter second.0)) each
 
 abbrev is_run : List ℕ → Bool
 is_run text = is_letter (slice_index text 0) && list_all is_word_byte text
@@ -241,6 +243,9 @@ admitted fresh (Spelled text (body.Character value wide)) after is =
 admitted fresh (Spelled text (body.Literal units wide)) after is =
     subst (λ l. Admits l (Spelled text (body.Literal units wide))) (sym (quoted_front wide 34 text after (flat_map item_text is.items ++ (34 ∷ [])) refl is.parts)) (inr tt)
 admitted fresh (Spelled text (body.Mark mark)) after is = mark_front text after mark (ap may_be_mark is ∙ mark_may mark)
+
+pub admitted_at : (fresh : Bool) (bytes : List ℕ) (l : Lead) (other : Part) (after : List ℕ) → lead bytes ≡ l → bytes ≡ part_text other ++ after → IsPart fresh other after → Admits l other
+admitted_at fresh bytes l other after at parts is = subst (λ k. Admits k other) (sym (ap lead parts) ∙ at) (admitted fresh other after is)
 
 -- a letter that is no L
 abbrev is_other_letter : ℕ → Bool

@@ -15,7 +15,7 @@ use Rattle.c_lexer.specs.declared.token.Body.{Body}
 use Rattle.c_lexer.specs.declared.token.Body.TheVariants as body
 use Rattle.c_lexer.specs.Bytes.{is_letter, is_word_byte, is_octal}
 use Rattle.c_lexer.specs.Lookup.{lookup}
-use Rattle.c_lexer.specs.Words.{word_text, word_of}
+use Rattle.c_lexer.specs.Words.{word_text, word_of, outside_words, is_outside}
 use Rattle.c_lexer.specs.Marks.{mark_text, marks}
 use Rattle.c_lexer.specs.Numbers.{IsPrefix, IsConstant}
 use Rattle.c_lexer.specs.Characters.{IsCharacter, IsLiteral}
@@ -23,6 +23,7 @@ use Rattle.c_lexer.specs.ReadNumber.{number_of}
 use Rattle.c_lexer.specs.ReadCharacters.{character_of, literal_of}
 use Rattle.c_lexer.specs.Parts.{IsName, IsToken}
 use Rattle.c_lexer.proofs.Cases.{neq-eqb}
+use Rattle.c_lexer.proofs.Tables.{listed_true}
 use Rattle.c_lexer.proofs.WordLaws.{word_sound, word_full}
 use Rattle.c_lexer.proofs.NumberLaws.{number_full}
 use Rattle.c_lexer.proofs.CharacterLaws.{character_full, literal_full}
@@ -314,3 +315,28 @@ pub only_one : {E : Type 0} (text : List ℕ) (r : Result (Option Body) E) → I
 only_one text (Err e) h = tt
 only_one text (Ok None) h = tt
 only_one text (Ok (Some token)) h = λ other is. one_token text other token is h
+
+outside_tag : (text : List ℕ) → is_outside text ≡ true → tag text ≡ 1
+unfolding tag quoted word_of is_outside
+outside_tag text outside = eqb-true (tag text) 1 (listed_true (λ t. tag t == 1) outside_words text refl outside)
+
+-- a word that is not taken spells no token
+pub outside_token : (text : List ℕ) (token : Body) → is_outside text ≡ true → IsToken text token → ⊥
+outside_token text (body.Name name) outside is = false≢true (sym is.1.inside ∙ outside)
+outside_token text (body.Word word) outside is = omega (arith, outside_tag text outside, tag_is text (body.Word word) is)
+outside_token text (body.Number number) outside is = omega (arith, outside_tag text outside, tag_is text (body.Number number) is)
+outside_token text (body.Character value wide) outside is = omega (arith, outside_tag text outside, tag_is text (body.Character value wide) is)
+outside_token text (body.Literal units wide) outside is = omega (arith, outside_tag text outside, tag_is text (body.Literal units wide) is)
+outside_token text (body.Mark mark) outside is = omega (arith, outside_tag text outside, tag_is text (body.Mark mark) is)
+
+tag_number : (token : Body) → tag_of token ≡ 2 → (number : Number) × (token ≡ body.Number number)
+tag_number (body.Number number) h = (number, refl)
+tag_number (body.Word word) h = absurd (omega (arith, h))
+tag_number (body.Name name) h = absurd (omega (arith, h))
+tag_number (body.Character value wide) h = absurd (omega (arith, h))
+tag_number (body.Literal units wide) h = absurd (omega (arith, h))
+tag_number (body.Mark mark) h = absurd (omega (arith, h))
+
+-- what begins with a digit spells a number or nothing
+pub digit_token : (text : List ℕ) (token : Body) → is_ascii_digit (slice_index text 0) ≡ true → IsToken text token → (number : Number) × (token ≡ body.Number number)
+digit_token text token digit is = tag_number token (sym (tag_is text token is) ∙ digit_tag text digit)
