@@ -1,11 +1,11 @@
 -- What may stand at a place, and which rows may fit there, by the two bytes at the front.
 use Rattle.std.proofs.Common.{◌≡◌, ◌⊎◌, inl, inr, ℕ, List, [], ◌∷◌, ◌++◌, Bool, true, false, ◌==◌, ◌||◌, ◌&&◌, cond, length, take, zero, suc, refl, sym, ◌∙◌, ap, subst, arith, append_assoc}
 use Rattle.std.proofs.lemmas.Bool.{and_parts, and_from, or_from, or_parts, eqb-true, false≢true}
-use Rattle.std.specs.Prelude.{slice_index, not}
+use Rattle.std.specs.Prelude.{slice_index, not, ◌≢◌}
 use Rattle.std.specs.List.{list_all, flat_map, prefix_len}
 use Rattle.std.specs.Char.{is_ascii_digit}
 use Rattle.critical_table.specs.declared.refusal.Refusal.{Refusal}
-use Rattle.critical_table.specs.declared.refusal.Refusal.TheVariants.{Char, Unclosed, Literal, Directive, Profile}
+use Rattle.critical_table.specs.declared.refusal.Refusal.TheVariants.{Size, Char, Unclosed, Literal, Directive, Profile, Syntax, Deep, Constraint}
 use Rattle.c_lexer.specs.declared.number.Number.{Number}
 use Rattle.c_lexer.specs.declared.punct.Punct.{Punct}
 use Rattle.c_lexer.specs.declared.word.Word.{Word}
@@ -287,3 +287,16 @@ directive_lead fresh bytes fits = ap lead fits.1.parts
 -- no part stands where a row other than Char fits
 pub no_part : (fresh : Bool) (bytes : List ℕ) (why : Refusal) → Fits fresh bytes why → (why ≡ Char → ⊥) → (part : Part) (after : List ℕ) → Stands fresh bytes part after → ⊥
 no_part fresh bytes why fits other part after stands = stands.no_row why other fits
+
+-- no row fits where these four don't
+pub no_row_of : (fresh : Bool) (bytes : List ℕ) → (Fits fresh bytes Profile → ⊥) → (Fits fresh bytes Literal → ⊥) → (Fits fresh bytes Unclosed → ⊥) → (Fits fresh bytes Directive → ⊥)
+    → (why : Refusal) → why ≢ Char → Fits fresh bytes why → ⊥
+no_row_of fresh bytes profile literal unclosed directive Profile other fits = profile fits
+no_row_of fresh bytes profile literal unclosed directive Literal other fits = literal fits
+no_row_of fresh bytes profile literal unclosed directive Unclosed other fits = unclosed fits
+no_row_of fresh bytes profile literal unclosed directive Directive other fits = directive fits
+no_row_of fresh bytes profile literal unclosed directive Char other fits = other refl
+no_row_of fresh bytes profile literal unclosed directive Size other fits = fits
+no_row_of fresh bytes profile literal unclosed directive Syntax other fits = fits
+no_row_of fresh bytes profile literal unclosed directive Deep other fits = fits
+no_row_of fresh bytes profile literal unclosed directive (Constraint number) other fits = fits

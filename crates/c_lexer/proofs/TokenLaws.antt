@@ -227,7 +227,7 @@ decimal_first : (digits suffix : List ℕ) → 0 < length digits → list_all is
 decimal_first [] suffix some all = absurd (omega (arith, some))
 decimal_first (b ∷ digits) suffix some all = (and_parts (is_ascii_digit b) (list_all is_ascii_digit digits) all).0
 
-octal_digit : (b : ℕ) → is_octal b ≡ true → is_ascii_digit b ≡ true
+pub octal_digit : (b : ℕ) → is_octal b ≡ true → is_ascii_digit b ≡ true
 octal_digit b h = and_from _ _ (and_parts (nat_le 48 b) (nat_le b 55) h).0 (le-leb b 57 (let le = leb-true b 55 (and_parts (nat_le 48 b) (nat_le b 55) h).1 in omega (arith, le)))
 
 octal_first : (digits suffix : List ℕ) → 0 < length digits → list_all is_octal digits ≡ true → is_ascii_digit (slice_index (digits ++ suffix) 0) ≡ true

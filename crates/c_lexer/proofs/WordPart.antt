@@ -2,20 +2,19 @@
 use Rattle.std.proofs.Common.{◌≡◌, inl, inr, ℕ, ◌≤◌, List, [], ◌∷◌, ◌++◌, Bool, true, false, ◌==◌, ◌&&◌, length, take, refl, sym, ◌∙◌, ap, subst, arith}
 use Rattle.std.proofs.lemmas.Bool.{and_parts, eqb-true, false≢true}
 use Rattle.std.proofs.Math.Seq.{take-append_seam}
-use Rattle.std.specs.Prelude.{slice_index, ◌≢◌}
+use Rattle.std.specs.Prelude.{slice_index}
 use Rattle.std.specs.List.{list_all, prefix_len}
-use Rattle.critical_table.specs.declared.refusal.Refusal.{Refusal}
-use Rattle.critical_table.specs.declared.refusal.Refusal.TheVariants.{Size, Char, Unclosed, Literal, Directive, Profile, Syntax, Deep, Constraint}
+use Rattle.critical_table.specs.declared.refusal.Refusal.TheVariants.{Profile}
 use Rattle.c_lexer.specs.declared.token.Body.{Body}
 use Rattle.c_lexer.specs.declared.token.Body.TheVariants as body
 use Rattle.c_lexer.specs.Bytes.{is_letter, is_word_byte}
 use Rattle.c_lexer.specs.Words.{is_outside}
 use Rattle.c_lexer.specs.Parts.{Part, White, Spelled, part_text, IsToken}
-use Rattle.c_lexer.specs.Rows.{Fits, IsFirstRow}
+use Rattle.c_lexer.specs.Rows.{IsFirstRow}
 use Rattle.c_lexer.specs.Lexing.{Stands}
 use Rattle.c_lexer.proofs.Runs.{run_whole, run_least}
 use Rattle.c_lexer.proofs.TokenLaws.{outside_token}
-use Rattle.c_lexer.proofs.Leads.{Letter, is_quote, lead, Admits, letter_lead, longer_lead, admitted_at, literal_lead, unclosed_lead, directive_lead}
+use Rattle.c_lexer.proofs.Leads.{Letter, is_quote, lead, Admits, letter_lead, longer_lead, admitted_at, literal_lead, unclosed_lead, directive_lead, no_row_of}
 
 -- a whole run that begins with a letter, and is no L before a quote
 pub record IsRun (text rest : List ℕ) : Type 0 where
@@ -45,17 +44,6 @@ longest_run : (bytes : List ℕ) (other : Part) (after : List ℕ) → Admits Le
 longest_run bytes (White text) after admits parts = absurd admits
 longest_run bytes (Spelled text token) after admits parts = subst (λ b. length text ≤ prefix_len is_word_byte b) (sym parts) (run_least is_word_byte text after admits)
 
-no_row_at : (fresh : Bool) (bytes : List ℕ) → lead bytes ≡ Letter → (Fits fresh bytes Profile → ⊥) → (why : Refusal) → why ≢ Char → Fits fresh bytes why → ⊥
-no_row_at fresh bytes at taken Profile other fits = taken fits
-no_row_at fresh bytes at taken Char other fits = other refl
-no_row_at fresh bytes at taken Literal other fits = elim (literal_lead fresh bytes fits) [ inl e ↦ cc | inr e ↦ cc ]
-no_row_at fresh bytes at taken Unclosed other fits = elim (unclosed_lead fresh bytes fits) [ inl e ↦ cc | inr e ↦ cc ]
-no_row_at fresh bytes at taken Directive other fits = (let e = directive_lead fresh bytes fits in cc)
-no_row_at fresh bytes at taken Size other fits = fits
-no_row_at fresh bytes at taken Syntax other fits = fits
-no_row_at fresh bytes at taken Deep other fits = fits
-no_row_at fresh bytes at taken (Constraint number) other fits = fits
-
 pub word_stands : (fresh : Bool) (text rest : List ℕ) (token : Body) → IsRun text rest → IsToken text token → Stands fresh (text ++ rest) (Spelled text token) rest
 word_stands fresh text rest token run is =
     let at = word_lead text rest run in record {
@@ -64,7 +52,10 @@ word_stands fresh text rest token run is =
       longest = λ other after parts part.
           let longest = longest_run (text ++ rest) other after (admitted_at fresh (text ++ rest) Letter other after at parts part) parts in
           omega (arith, longest, run_len text rest run);
-      no_row = no_row_at fresh (text ++ rest) at (λ fits. outside_token text token (ap is_outside (sym (run_taken text rest run)) ∙ fits) is);
+      no_row = no_row_of fresh (text ++ rest) (λ fits. outside_token text token (ap is_outside (sym (run_taken text rest run)) ∙ fits) is)
+          (λ fits. elim (literal_lead fresh (text ++ rest) fits) [ inl e ↦ cc | inr e ↦ cc ])
+          (λ fits. elim (unclosed_lead fresh (text ++ rest) fits) [ inl e ↦ cc | inr e ↦ cc ])
+          (λ fits. let e = directive_lead fresh (text ++ rest) fits in cc);
     }
 
 outside_run : (text rest : List ℕ) (outside : Bool) → is_outside text ≡ outside → IsRun text rest → ((token : Body) → IsToken text token → ⊥) → outside ≡ true
