@@ -1,6 +1,6 @@
 -- What begins as a number stands where it spells one, and is refused where it spells none.
-use Rattle.std.proofs.Common.{◌≡◌, inl, inr, ℕ, ◌≤◌, List, [], ◌∷◌, ◌++◌, Bool, true, false, ◌==◌, ◌&&◌, ◌||◌, length, take, refl, sym, ◌∙◌, ap, subst, arith}
-use Rattle.std.proofs.lemmas.Bool.{and_parts, and_from, eqb-true, false≢true}
+use Rattle.std.proofs.Common.{◌≡◌, inl, inr, ℕ, ◌≤◌, List, [], ◌∷◌, ◌++◌, Bool, true, false, ◌==◌, ◌&&◌, length, take, refl, sym, ◌∙◌, ap, subst, arith}
+use Rattle.std.proofs.lemmas.Bool.{and_parts, and_from, or_right, eqb-true, false≢true}
 use Rattle.std.proofs.lemmas.List.Folds.{list_all-append}
 use Rattle.std.proofs.Math.Seq.{take-append_seam}
 use Rattle.std.specs.Prelude.{slice_index}
@@ -34,18 +34,10 @@ all_weaker p q (x ∷ xs) weaker all =
     let parts = and_parts (p x) (list_all p xs) all in
     and_from _ _ (weaker x parts.0) (all_weaker p q xs weaker parts.1)
 
-or_last : (x y : Bool) → y ≡ true → (x || y) ≡ true
-or_last true y h = refl
-or_last false y h = h
-
-not_not : (b : Bool) → (b ≡ false → ⊥) → b ≡ true
-not_not true h = refl
-not_not false h = absurd (h refl)
-
 digit_word : (base : Base) (byte : ℕ) → is_in (digits_of base) byte ≡ true → is_word_byte byte ≡ true
-digit_word Decimal byte digit = or_last (is_letter byte) (is_ascii_digit byte) digit
-digit_word Octal byte digit = or_last (is_letter byte) (is_ascii_digit byte) (octal_digit byte digit)
-digit_word Hexadecimal byte digit = not_not (is_word_byte byte) (λ outside. grind (arith, digit, outside))
+digit_word Decimal byte digit = or_right (is_letter byte) (is_ascii_digit byte) digit
+digit_word Octal byte digit = or_right (is_letter byte) (is_ascii_digit byte) (octal_digit byte digit)
+digit_word Hexadecimal byte digit = grind (arith, digit)
 
 all_joined : (xs ys : List ℕ) → list_all is_word_byte xs ≡ true → list_all is_word_byte ys ≡ true → list_all is_word_byte (xs ++ ys) ≡ true
 all_joined xs ys one other = list_all-append is_word_byte xs ys ∙ and_from _ _ one other
@@ -67,6 +59,7 @@ number_word : (text : List ℕ) (number : Number) → IsNumber text number → l
 number_word text number is =
     ap (list_all is_word_byte) is.parts ∙ all_joined is.before is.after (prefix_word is.base is.before is.prefix) (constant_word is.base is.after number is.constant)
 
+-- letters and digits all go on
 number_least : (sign : Bool) (ds rest : List ℕ) → list_all is_word_byte ds ≡ true → length ds ≤ number_len sign (ds ++ rest)
 number_least sign [] rest all = omega arith
 number_least sign (d ∷ ds) rest all =
@@ -74,6 +67,7 @@ number_least sign (d ∷ ds) rest all =
     let more = number_least (is_exponent d) ds rest parts.1 in
     rw parts.0 (omega (arith, more))
 
+-- a digit goes on, and so does what follows a point
 digit_some : (sign : Bool) (bytes : List ℕ) → is_ascii_digit (slice_index bytes 0) ≡ true → 1 ≤ number_len sign bytes
 digit_some sign [] digit = absurd (false≢true digit)
 digit_some sign (a ∷ bytes) digit = rw (digit_word Decimal a digit) (omega arith)
@@ -99,10 +93,10 @@ longest_number bytes (Spelled text token) after fresh begins (inr number) parts 
 run_taken : (text rest : List ℕ) → IsNumberRun text rest → take (number_len false (text ++ rest)) (text ++ rest) ≡ text
 run_taken text rest run = ap (λ n. take n (text ++ rest)) run.ends ∙ take-append_seam text rest
 
--- what is all that goes on as a number spells a number or nothing
 spelled_number : (text : List ℕ) (token : Body) → (number : Number) × (token ≡ body.Number number) → IsToken text token → (number : Number) × IsNumber text number
 spelled_number text token number is = (number.0, subst (IsToken text) number.1 is)
 
+-- what is all that goes on as a number spells a number or nothing
 run_number : (text rest : List ℕ) (token : Body) → IsNumberRun text rest → IsToken text token → (number : Number) × IsNumber text number
 run_number [] rest token run is = (let some = begins_some rest run.begins in let ends = run.ends in absurd (omega (arith, some, ends)))
 run_number (a ∷ text) rest token run is =
