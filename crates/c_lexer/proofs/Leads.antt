@@ -1,19 +1,30 @@
 -- What may stand at a place, and which rows may fit there, by the two bytes at the front.
-use Rattle.std.proofs.Common.{◌≡◌, ◌⊎◌, inl, inr, ℕ, List, [], ◌∷◌, ◌++◌, Bool, true, false, ◌==◌, ◌||◌, ◌&&◌, cond, length, refl}
-use Rattle.std.specs.Prelude.{ℤ, slice_index}
-use Rattle.std.specs.List.{list_all}
+use Rattle.std.proofs.Common.{◌≡◌, ◌⊎◌, inl, inr, ℕ, List, [], ◌∷◌, ◌++◌, Bool, true, false, ◌==◌, ◌||◌, ◌&&◌, cond, length, take, zero, suc, refl, sym, ◌∙◌, ap, subst, arith, append_assoc}
+use Rattle.std.proofs.lemmas.Bool.{and_parts, and_from, or_from, or_parts, eqb-true, false≢true}
+use Rattle.std.specs.Prelude.{slice_index, not, ◌≢◌}
+use Rattle.std.specs.List.{list_all, flat_map, prefix_len}
+use Rattle.std.specs.Char.{is_ascii_digit}
 use Rattle.critical_table.specs.declared.refusal.Refusal.{Refusal}
 use Rattle.critical_table.specs.declared.refusal.Refusal.TheVariants.{Size, Char, Unclosed, Literal, Directive, Profile, Syntax, Deep, Constraint}
 use Rattle.c_lexer.specs.declared.number.Number.{Number}
 use Rattle.c_lexer.specs.declared.punct.Punct.{Punct}
+use Rattle.c_lexer.specs.declared.word.Word.{Word}
 use Rattle.c_lexer.specs.declared.token.Body.{Body}
 use Rattle.c_lexer.specs.declared.token.Body.TheVariants as body
 use Rattle.c_lexer.specs.Bytes.{is_letter, is_word_byte, is_white}
+use Rattle.c_lexer.specs.Words.{word_text, words, word_of, outside_words, is_outside}
+use Rattle.c_lexer.specs.Marks.{mark_text, marks}
+use Rattle.c_lexer.specs.Numbers.{IsNumber}
+use Rattle.c_lexer.specs.Characters.{opening, item_text}
 use Rattle.c_lexer.specs.Comments.{IsBlockComment, IsLineComment}
 use Rattle.c_lexer.specs.Directives.{IsDirective}
-use Rattle.c_lexer.specs.Parts.{Part, White, Spelled, part_text, IsPart}
-use Rattle.c_lexer.specs.Rows.{begins_number, Fits, IsFirstRow}
+use Rattle.c_lexer.specs.Parts.{Part, White, Spelled, part_text, IsPart, IsWhite}
+use Rattle.c_lexer.specs.Rows.{begins_number, Fits, OpenComment}
 use Rattle.c_lexer.specs.Lexing.{Stands}
+use Rattle.c_lexer.proofs.Cases.{either, neq-eqb, not_true, not_false}
+use Rattle.c_lexer.proofs.Tables.{lookup_true, listed_true}
+use Rattle.c_lexer.proofs.WordLaws.{word_full}
+use Rattle.c_lexer.proofs.TokenLaws.{and_last, mark_full, number_first}
 
 -- a quote, or L and a quote; a letter; a digit, or a point and a digit; what begins a comment; a #; one of the six bytes; none of these
 pub data Lead : Type 0 where
@@ -64,22 +75,228 @@ Admits Space (Spelled text token) = ⊥
 Admits Other (White text) = ⊥
 Admits Other (Spelled text token) = (mark : Punct) × (token ≡ body.Mark mark)
 
+-- a byte of a class is none that is outside of it
+other_byte : (class : ℕ → Bool) (value byte : ℕ) → class value ≡ false → class byte ≡ true → (byte == value) ≡ false
+other_byte class value byte outside inside = neq-eqb byte value (λ (e : byte ≡ value). false≢true (sym outside ∙ (ap class (sym e) ∙ inside)))
+
+no_quote_in : (class : ℕ → Bool) (byte : ℕ) → class 34 ≡ false → class 39 ≡ false → class byte ≡ true → is_quote byte ≡ false
+no_quote_in class byte double single inside = or_from _ _ (other_byte class 34 byte double inside) (other_byte class 39 byte single inside)
+
+pub quoted_lead : (wide : Bool) (quote : ℕ) (bytes rest : List ℕ) → is_quote quote ≡ true → bytes ≡ opening wide ++ (quote ∷ rest) → lead bytes ≡ Quoted
+unfolding lead
+quoted_lead false quote bytes rest is parts = rw (parts, is) refl
+quoted_lead true quote bytes rest is parts = rw (parts, is) refl
+
+run_lead : (bytes : List ℕ) → is_letter (slice_index bytes 0) ≡ true → lead bytes ≡ cond (slice_index bytes 0 == 76 && is_quote (slice_index bytes 1)) Quoted Letter
+unfolding lead
+run_lead bytes letter = rw (no_quote_in is_letter (slice_index bytes 0) refl refl letter, letter) refl
+
+pub letter_lead : (bytes : List ℕ) → is_letter (slice_index bytes 0) ≡ true → (slice_index bytes 0 == 76 && is_quote (slice_index bytes 1)) ≡ false → lead bytes ≡ Letter
+letter_lead bytes letter unquoted = run_lead bytes letter ∙ ap (λ t. cond t Quoted Letter) unquoted
+
+pub longer_lead : (a b : ℕ) (bytes : List ℕ) → is_letter a ≡ true → is_word_byte b ≡ true → lead (a ∷ b ∷ bytes) ≡ Letter
+longer_lead a b bytes letter word = letter_lead (a ∷ b ∷ bytes) letter (and_last (a == 76) (is_quote b) (no_quote_in is_word_byte b refl refl word))
+
+digit_no_letter : (byte : ℕ) → is_ascii_digit byte ≡ true → is_letter byte ≡ false
+digit_no_letter byte digit = not_true (is_letter byte) (λ letter. grind (arith, letter, digit))
+
+digit_lead : (bytes : List ℕ) → is_ascii_digit (slice_index bytes 0) ≡ true → lead bytes ≡ Digit
+unfolding lead
+digit_lead bytes digit =
+    rw (no_quote_in is_ascii_digit (slice_index bytes 0) refl refl digit, other_byte is_ascii_digit 76 (slice_index bytes 0) refl digit, digit_no_letter (slice_index bytes 0) digit, digit) refl
+
+point_lead : (bytes : List ℕ) → slice_index bytes 0 ≡ 46 → is_ascii_digit (slice_index bytes 1) ≡ true → lead bytes ≡ Digit
+unfolding lead
+point_lead bytes point digit = rw (point, digit) refl
+
+pub number_lead : (bytes : List ℕ) → begins_number bytes ≡ true → lead bytes ≡ Digit
+number_lead bytes begins =
+    elim (either (is_ascii_digit (slice_index bytes 0)) (slice_index bytes 0 == 46 && is_ascii_digit (slice_index bytes 1)) begins)
+    [ inl digit ↦ digit_lead bytes digit | inr both ↦ (let parts = and_parts _ _ both in point_lead bytes (eqb-true _ _ parts.0) parts.1) ]
+
+white_no_letter : (byte : ℕ) → is_white byte ≡ true → is_letter byte ≡ false
+white_no_letter byte white = not_true (is_letter byte) (λ letter. grind (arith, letter, white))
+
+white_no_digit : (byte : ℕ) → is_white byte ≡ true → is_ascii_digit byte ≡ false
+white_no_digit byte white = not_true (is_ascii_digit byte) (λ digit. grind (arith, digit, white))
+
+pub white_lead : (byte : ℕ) (after : List ℕ) → is_white byte ≡ true → lead (byte ∷ after) ≡ Space
+unfolding lead
+white_lead byte after white =
+    rw (
+      no_quote_in is_white byte refl refl white,
+      other_byte is_white 76 byte refl white,
+      white_no_letter byte white,
+      white_no_digit byte white,
+      other_byte is_white 46 byte refl white,
+      other_byte is_white 47 byte refl white,
+      other_byte is_white 35 byte refl white,
+      white,
+    ) refl
+
+single_admits : (t : Bool) (byte : ℕ) (token : Body) → is_word_byte byte ≡ true → Admits (cond t Quoted Letter) (Spelled (byte ∷ []) token)
+single_admits true byte token is = inl refl
+single_admits false byte token is = and_from _ _ is refl
+
+run_admitted : (text after : List ℕ) (token : Body) → is_letter (slice_index text 0) ≡ true → list_all is_word_byte text ≡ true → Admits (lead (text ++ after)) (Spelled text token)
+run_admitted [] after token letter each = absurd (false≢true letter)
+run_admitted (a ∷ []) after token letter each =
+    subst (λ l. Admits l (Spelled (a ∷ []) token)) (sym (run_lead (a ∷ after) letter)) (single_admits (a == 76 && is_quote (slice_index after 0)) a token (and_parts _ _ each).0)
+run_admitted (a ∷ b ∷ text) after token letter each =
+    let second = and_parts (is_word_byte b) (list_all is_word_byte text) (and_parts (is_word_byte a) (list_all is_word_byte (b ∷ text)) each).1 in
+    subst (λ l. Admits l (Spelled (a ∷ b ∷ text) token)) (sym (longer_lead a b (text ++ after) letter second.0)) each
+
+abbrev is_run : List ℕ → Bool
+is_run text = is_letter (slice_index text 0) && list_all is_word_byte text
+
+word_run : (word : Word) → is_run (word_text word) ≡ true
+unfolding word_of
+word_run word = lookup_true is_run words (word_text word) word refl (word_full word)
+
+word_admitted : (text after : List ℕ) (word : Word) → text ≡ word_text word → Admits (lead (text ++ after)) (Spelled text (body.Word word))
+word_admitted text after word is =
+    let run = and_parts (is_letter (slice_index text 0)) (list_all is_word_byte text) (ap is_run is ∙ word_run word) in
+    run_admitted text after (body.Word word) run.0 run.1
+
+digit_front : (text after : List ℕ) → is_ascii_digit (slice_index text 0) ≡ true → lead (text ++ after) ≡ Digit
+digit_front [] after digit = absurd (false≢true digit)
+digit_front (a ∷ text) after digit = digit_lead (a ∷ (text ++ after)) digit
+
+number_admitted : (text after : List ℕ) (number : Number) → IsNumber text number → Admits (lead (text ++ after)) (Spelled text (body.Number number))
+number_admitted text after number is =
+    subst (λ l. Admits l (Spelled text (body.Number number))) (sym (digit_front text after (number_first is.base is.before is.after text number is.parts is.prefix is.constant))) (inr (number, refl))
+
+quoted_front : (wide : Bool) (quote : ℕ) (text after rest : List ℕ) → is_quote quote ≡ true → text ≡ opening wide ++ (quote ∷ rest) → lead (text ++ after) ≡ Quoted
+quoted_front wide quote text after rest is parts =
+    quoted_lead wide quote (text ++ after) (rest ++ after) is (ap (λ t. t ++ after) parts ∙ append_assoc (opening wide) (quote ∷ rest) after)
+
+-- where marks stand: none of one byte is a letter, white or a #
+abbrev is_other : Lead → Bool
+is_other Other = true
+is_other l = false
+
+abbrev may_be_mark : List ℕ → Bool
+may_be_mark [] = false
+may_be_mark (a ∷ []) = not (is_letter a || a == 35 || is_white a)
+may_be_mark (a ∷ b ∷ text) = is_other (lead (a ∷ b ∷ []))
+
+mark_may : (mark : Punct) → may_be_mark (mark_text mark) ≡ true
+unfolding lead
+mark_may mark = lookup_true may_be_mark marks (mark_text mark) mark refl (mark_full mark)
+
+other_admits : (l : Lead) (text : List ℕ) (mark : Punct) → is_other l ≡ true → Admits l (Spelled text (body.Mark mark))
+other_admits Other text mark is = (mark, refl)
+other_admits Quoted text mark is = absurd (false≢true is)
+other_admits Letter text mark is = absurd (false≢true is)
+other_admits Digit text mark is = absurd (false≢true is)
+other_admits Comment text mark is = absurd (false≢true is)
+other_admits Hash text mark is = absurd (false≢true is)
+other_admits Space text mark is = absurd (false≢true is)
+
+byte_admits : (quoted digit comment : Bool) (byte : ℕ) (mark : Punct) → Admits (cond quoted Quoted (cond digit Digit (cond comment Comment Other))) (Spelled (byte ∷ []) (body.Mark mark))
+byte_admits true digit comment byte mark = inl refl
+byte_admits false true comment byte mark = inl refl
+byte_admits false false true byte mark = refl
+byte_admits false false false byte mark = (mark, refl)
+
+byte_lead : (bytes : List ℕ) → (is_letter (slice_index bytes 0) || slice_index bytes 0 == 35 || is_white (slice_index bytes 0)) ≡ false
+    → lead bytes ≡ cond (is_quote (slice_index bytes 0) || (slice_index bytes 0 == 76 && is_quote (slice_index bytes 1))) Quoted
+    (cond (begins_number bytes) Digit (cond (slice_index bytes 0 == 47 && (slice_index bytes 1 == 47 || slice_index bytes 1 == 42)) Comment Other))
+unfolding lead
+byte_lead bytes plain =
+    let white = or_parts (is_letter (slice_index bytes 0) || slice_index bytes 0 == 35) (is_white (slice_index bytes 0)) plain in
+    let others = or_parts (is_letter (slice_index bytes 0)) (slice_index bytes 0 == 35) white.0 in
+    rw (others.0, others.1, white.1) refl
+
+mark_front : (text after : List ℕ) (mark : Punct) → may_be_mark text ≡ true → Admits (lead (text ++ after)) (Spelled text (body.Mark mark))
+unfolding lead
+mark_front [] after mark may = absurd (false≢true may)
+mark_front (a ∷ []) after mark may =
+    subst (λ l. Admits l (Spelled (a ∷ []) (body.Mark mark))) (sym (byte_lead (a ∷ after) (not_false _ may))) (byte_admits _ _ _ a mark)
+mark_front (a ∷ b ∷ text) after mark may = other_admits (lead (a ∷ b ∷ (text ++ after))) (a ∷ b ∷ text) mark may
+
+pub comment_front : (text rest after : List ℕ) (second : ℕ) → (second == 47 || second == 42) ≡ true → text ≡ 47 ∷ second ∷ rest → lead (text ++ after) ≡ Comment
+unfolding lead
+comment_front text rest after second is parts = rw (parts, is) refl
+
+pub hash_front : (text rest after : List ℕ) → text ≡ 35 ∷ rest → lead (text ++ after) ≡ Hash
+unfolding lead
+hash_front text rest after parts = rw parts refl
+
+white_admitted : (fresh : Bool) (text after : List ℕ) → IsWhite fresh text after → Admits (lead (text ++ after)) (White text)
+white_admitted fresh text after (inl white) =
+    subst (λ l. Admits l (White text)) (sym (ap (λ t. lead (t ++ after)) white.1 ∙ white_lead white.0 after white.2)) (ap length white.1)
+white_admitted fresh text after (inr (inl line)) = subst (λ l. Admits l (White text)) (sym (comment_front text line.body after 47 refl line.parts)) (inl line)
+white_admitted fresh text after (inr (inr (inl block))) =
+    subst (λ l. Admits l (White text)) (sym (comment_front text (block.body ++ (42 ∷ 47 ∷ [])) after 42 refl block.parts)) (inr block)
+white_admitted fresh text after (inr (inr (inr directive))) =
+    let is = directive.1 in
+    subst (λ l. Admits l (White text)) (sym (hash_front text (is.before ++ is.text) after is.parts)) is
+
 pub admitted : (fresh : Bool) (part : Part) (after : List ℕ) → IsPart fresh part after → Admits (lead (part_text part ++ after)) part
-admitted fresh part after is = ?
+admitted fresh (White text) after is = white_admitted fresh text after is
+admitted fresh (Spelled text (body.Word word)) after is = word_admitted text after word is
+admitted fresh (Spelled text (body.Name name)) after is = run_admitted text after (body.Name name) is.1.first is.1.each
+admitted fresh (Spelled text (body.Number number)) after is = number_admitted text after number is
+admitted fresh (Spelled text (body.Character value wide)) after is =
+    subst (λ l. Admits l (Spelled text (body.Character value wide))) (sym (quoted_front wide 39 text after (item_text is.item ++ (39 ∷ [])) refl is.parts)) (inr tt)
+admitted fresh (Spelled text (body.Literal units wide)) after is =
+    subst (λ l. Admits l (Spelled text (body.Literal units wide))) (sym (quoted_front wide 34 text after (flat_map item_text is.items ++ (34 ∷ [])) refl is.parts)) (inr tt)
+admitted fresh (Spelled text (body.Mark mark)) after is = mark_front text after mark (ap may_be_mark is ∙ mark_may mark)
+
+pub admitted_at : (fresh : Bool) (bytes : List ℕ) (l : Lead) (other : Part) (after : List ℕ) → lead bytes ≡ l → bytes ≡ part_text other ++ after → IsPart fresh other after → Admits l other
+admitted_at fresh bytes l other after at parts is = subst (λ k. Admits k other) (sym (ap lead parts) ∙ at) (admitted fresh other after is)
+
+-- a letter that is no L
+abbrev is_other_letter : ℕ → Bool
+is_other_letter byte = is_letter byte && not (byte == 76)
+
+taken_lead : (n : ℕ) (bytes : List ℕ) → is_other_letter (slice_index (take n bytes) 0) ≡ true → lead bytes ≡ Letter
+taken_lead zero bytes other = absurd (false≢true other)
+taken_lead (suc n) [] other = absurd (false≢true other)
+taken_lead (suc n) (a ∷ bytes) other =
+    let parts = and_parts (is_letter a) (not (a == 76)) other in
+    letter_lead (a ∷ bytes) parts.0 (ap (λ t. t && is_quote (slice_index bytes 0)) (not_false (a == 76) parts.1))
+
+outside_first : (text : List ℕ) → is_outside text ≡ true → is_other_letter (slice_index text 0) ≡ true
+unfolding is_outside
+outside_first text outside = listed_true (λ t. is_other_letter (slice_index t 0)) outside_words text refl outside
 
 -- which rows fit behind which bytes
 pub profile_lead : (fresh : Bool) (bytes : List ℕ) → Fits fresh bytes Profile → lead bytes ≡ Letter
-profile_lead fresh bytes fits = ?
+profile_lead fresh bytes fits = taken_lead (prefix_len is_word_byte bytes) bytes (outside_first (take (prefix_len is_word_byte bytes) bytes) fits)
 
 pub literal_lead : (fresh : Bool) (bytes : List ℕ) → Fits fresh bytes Literal → (lead bytes ≡ Digit) ⊎ (lead bytes ≡ Quoted)
-literal_lead fresh bytes fits = ?
+literal_lead fresh bytes (inl number) = inl (number_lead bytes number.0)
+literal_lead fresh bytes (inr (inl character)) = inr (quoted_lead character.wide 39 bytes (character.inner ++ (39 ∷ character.after)) refl character.parts)
+literal_lead fresh bytes (inr (inr literal)) = inr (quoted_lead literal.wide 34 bytes (literal.inner ++ (34 ∷ literal.after)) refl literal.parts)
+
+comment_lead : (bytes : List ℕ) → OpenComment bytes → lead bytes ≡ Comment
+unfolding lead
+comment_lead bytes comment = ap lead comment.parts
 
 pub unclosed_lead : (fresh : Bool) (bytes : List ℕ) → Fits fresh bytes Unclosed → (lead bytes ≡ Comment) ⊎ (lead bytes ≡ Quoted)
-unclosed_lead fresh bytes fits = ?
+unclosed_lead fresh bytes (inl comment) = inl (comment_lead bytes comment)
+unclosed_lead fresh bytes (inr (inl single)) = inr (quoted_lead single.wide 39 bytes single.rest refl single.parts)
+unclosed_lead fresh bytes (inr (inr double)) = inr (quoted_lead double.wide 34 bytes double.rest refl double.parts)
 
 pub directive_lead : (fresh : Bool) (bytes : List ℕ) → Fits fresh bytes Directive → lead bytes ≡ Hash
-directive_lead fresh bytes fits = ?
+unfolding lead
+directive_lead fresh bytes fits = ap lead fits.1.parts
 
 -- no part stands where a row other than Char fits
 pub no_part : (fresh : Bool) (bytes : List ℕ) (why : Refusal) → Fits fresh bytes why → (why ≡ Char → ⊥) → (part : Part) (after : List ℕ) → Stands fresh bytes part after → ⊥
 no_part fresh bytes why fits other part after stands = stands.no_row why other fits
+
+-- no row fits where these four don't
+pub no_row_of : (fresh : Bool) (bytes : List ℕ) → (Fits fresh bytes Profile → ⊥) → (Fits fresh bytes Literal → ⊥) → (Fits fresh bytes Unclosed → ⊥) → (Fits fresh bytes Directive → ⊥)
+    → (why : Refusal) → why ≢ Char → Fits fresh bytes why → ⊥
+no_row_of fresh bytes profile literal unclosed directive Profile other fits = profile fits
+no_row_of fresh bytes profile literal unclosed directive Literal other fits = literal fits
+no_row_of fresh bytes profile literal unclosed directive Unclosed other fits = unclosed fits
+no_row_of fresh bytes profile literal unclosed directive Directive other fits = directive fits
+no_row_of fresh bytes profile literal unclosed directive Char other fits = other refl
+no_row_of fresh bytes profile literal unclosed directive Size other fits = fits
+no_row_of fresh bytes profile literal unclosed directive Syntax other fits = fits
+no_row_of fresh bytes profile literal unclosed directive Deep other fits = fits
+no_row_of fresh bytes profile literal unclosed directive (Constraint number) other fits = fits

@@ -15,7 +15,7 @@ use Rattle.c_lexer.specs.declared.token.Body.{Body}
 use Rattle.c_lexer.specs.declared.token.Body.TheVariants as body
 use Rattle.c_lexer.specs.Bytes.{is_letter, is_word_byte, is_octal}
 use Rattle.c_lexer.specs.Lookup.{lookup}
-use Rattle.c_lexer.specs.Words.{word_text, word_of}
+use Rattle.c_lexer.specs.Words.{word_text, word_of, outside_words, is_outside}
 use Rattle.c_lexer.specs.Marks.{mark_text, marks}
 use Rattle.c_lexer.specs.Numbers.{IsPrefix, IsConstant}
 use Rattle.c_lexer.specs.Characters.{IsCharacter, IsLiteral}
@@ -23,6 +23,7 @@ use Rattle.c_lexer.specs.ReadNumber.{number_of}
 use Rattle.c_lexer.specs.ReadCharacters.{character_of, literal_of}
 use Rattle.c_lexer.specs.Parts.{IsName, IsToken}
 use Rattle.c_lexer.proofs.Cases.{neq-eqb}
+use Rattle.c_lexer.proofs.Tables.{listed_true}
 use Rattle.c_lexer.proofs.WordLaws.{word_sound, word_full}
 use Rattle.c_lexer.proofs.NumberLaws.{number_full}
 use Rattle.c_lexer.proofs.CharacterLaws.{character_full, literal_full}
@@ -190,7 +191,7 @@ no_word : (text : List ℕ) (o : Option Word) → word_of text ≡ o → ((word 
 no_word text None at none = refl
 no_word text (Some word) at none = absurd (none word (word_sound text word at))
 
-and_last : (a b : Bool) → b ≡ false → (a && b) ≡ false
+pub and_last : (a b : Bool) → b ≡ false → (a && b) ≡ false
 and_last true b h = h
 and_last false b h = refl
 
@@ -226,7 +227,7 @@ decimal_first : (digits suffix : List ℕ) → 0 < length digits → list_all is
 decimal_first [] suffix some all = absurd (omega (arith, some))
 decimal_first (b ∷ digits) suffix some all = (and_parts (is_ascii_digit b) (list_all is_ascii_digit digits) all).0
 
-octal_digit : (b : ℕ) → is_octal b ≡ true → is_ascii_digit b ≡ true
+pub octal_digit : (b : ℕ) → is_octal b ≡ true → is_ascii_digit b ≡ true
 octal_digit b h = and_from _ _ (and_parts (nat_le 48 b) (nat_le b 55) h).0 (le-leb b 57 (let le = leb-true b 55 (and_parts (nat_le 48 b) (nat_le b 55) h).1 in omega (arith, le)))
 
 octal_first : (digits suffix : List ℕ) → 0 < length digits → list_all is_octal digits ≡ true → is_ascii_digit (slice_index (digits ++ suffix) 0) ≡ true
@@ -238,7 +239,7 @@ first_digit Hexadecimal text number c no_hex = absurd (no_hex refl)
 first_digit Decimal text number c no_hex = ap (λ t. is_ascii_digit (slice_index t 0)) c.parts ∙ decimal_first c.digits c.suffix c.some c.each
 first_digit Octal text number c no_hex = ap (λ t. is_ascii_digit (slice_index t 0)) c.parts ∙ octal_first c.digits c.suffix c.some c.each
 
-number_first : (base : Base) (before after text : List ℕ) (number : Number) → text ≡ before ++ after → IsPrefix base before → IsConstant base after number → is_ascii_digit (slice_index text 0) ≡ true
+pub number_first : (base : Base) (before after text : List ℕ) (number : Number) → text ≡ before ++ after → IsPrefix base before → IsConstant base after number → is_ascii_digit (slice_index text 0) ≡ true
 number_first Decimal before after text number parts prefix c = ap (λ t. is_ascii_digit (slice_index t 0)) (parts ∙ ap (λ b. b ++ after) prefix) ∙ first_digit Decimal after number c (λ e. cc)
 number_first Octal before after text number parts prefix c = ap (λ t. is_ascii_digit (slice_index t 0)) (parts ∙ ap (λ b. b ++ after) prefix) ∙ first_digit Octal after number c (λ e. cc)
 number_first Hexadecimal before after text number parts (inl e) c = ap (λ t. is_ascii_digit (slice_index t 0)) (parts ∙ ap (λ b. b ++ after) e)
@@ -314,3 +315,28 @@ pub only_one : {E : Type 0} (text : List ℕ) (r : Result (Option Body) E) → I
 only_one text (Err e) h = tt
 only_one text (Ok None) h = tt
 only_one text (Ok (Some token)) h = λ other is. one_token text other token is h
+
+outside_tag : (text : List ℕ) → is_outside text ≡ true → tag text ≡ 1
+unfolding tag quoted word_of is_outside
+outside_tag text outside = eqb-true (tag text) 1 (listed_true (λ t. tag t == 1) outside_words text refl outside)
+
+-- a word that is not taken spells no token
+pub outside_token : (text : List ℕ) (token : Body) → is_outside text ≡ true → IsToken text token → ⊥
+outside_token text (body.Name name) outside is = false≢true (sym is.1.inside ∙ outside)
+outside_token text (body.Word word) outside is = omega (arith, outside_tag text outside, tag_is text (body.Word word) is)
+outside_token text (body.Number number) outside is = omega (arith, outside_tag text outside, tag_is text (body.Number number) is)
+outside_token text (body.Character value wide) outside is = omega (arith, outside_tag text outside, tag_is text (body.Character value wide) is)
+outside_token text (body.Literal units wide) outside is = omega (arith, outside_tag text outside, tag_is text (body.Literal units wide) is)
+outside_token text (body.Mark mark) outside is = omega (arith, outside_tag text outside, tag_is text (body.Mark mark) is)
+
+tag_number : (token : Body) → tag_of token ≡ 2 → (number : Number) × (token ≡ body.Number number)
+tag_number (body.Number number) h = (number, refl)
+tag_number (body.Word word) h = absurd (omega (arith, h))
+tag_number (body.Name name) h = absurd (omega (arith, h))
+tag_number (body.Character value wide) h = absurd (omega (arith, h))
+tag_number (body.Literal units wide) h = absurd (omega (arith, h))
+tag_number (body.Mark mark) h = absurd (omega (arith, h))
+
+-- what begins with a digit spells a number or nothing
+pub digit_token : (text : List ℕ) (token : Body) → is_ascii_digit (slice_index text 0) ≡ true → IsToken text token → (number : Number) × (token ≡ body.Number number)
+digit_token text token digit is = tag_number token (sym (tag_is text token is) ∙ digit_tag text digit)
