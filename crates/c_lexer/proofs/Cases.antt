@@ -1,7 +1,7 @@
 -- Which way a test went.
-use Rattle.std.proofs.Common.{◌≡◌, ◌⊎◌, inl, inr, ℕ, Bool, true, false, ◌==◌, ◌||◌, cond, refl}
+use Rattle.std.proofs.Common.{◌≡◌, ◌⊎◌, inl, inr, ℕ, Bool, true, false, ◌==◌, ◌||◌, cond, refl, sym}
 use Rattle.std.proofs.lemmas.Bool.{eqb-true, false≢true}
-use Rattle.std.specs.Prelude.{Some, None, not}
+use Rattle.std.specs.Prelude.{Option, Some, None, is_some, not}
 
 pub chosen : {A : Type 0} (b : Bool) (x y z : A) → cond b x y ≡ z → ((b ≡ true) × (x ≡ z)) ⊎ ((b ≡ false) × (y ≡ z))
 chosen true x y z h = inl (refl, h)
@@ -24,3 +24,11 @@ none_found h = cc
 pub not_false : (b : Bool) → not b ≡ true → b ≡ false
 not_false true h = absurd (false≢true h)
 not_false false h = refl
+
+pub not_is_false : (b : Bool) → not b ≡ false → b ≡ true
+not_is_false true h = refl
+not_is_false false h = sym h
+
+pub nothing_some : {A : Type 0} (o : Option A) → is_some o ≡ false → o ≡ None
+nothing_some None h = refl
+nothing_some (Some a) h = absurd (false≢true (sym h))

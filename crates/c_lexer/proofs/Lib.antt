@@ -16,6 +16,9 @@ pub mod TokenLaws
 pub mod SpellingLaws
 pub mod OpenLaws
 pub mod EndLaws
+pub mod SplitMore
+pub mod ReaderLaws
+pub mod TakeLaws
 pub mod PlaceLaws
 pub mod Leads
 pub mod WordPart

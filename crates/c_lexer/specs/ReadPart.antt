@@ -84,3 +84,24 @@ next (mode.BlockComment star) text byte = Some (next_comment star byte)
 next mode.Space text byte = None
 next mode.Directive text byte = only (not (byte == 10)) mode.Directive
 next mode.Alien text byte = None
+
+abbrev pub is_dots : Mode → Bool
+is_dots mode.Dots = true
+is_dots mode.Word = false
+is_dots mode.Wide = false
+is_dots (mode.Number sign) = false
+is_dots mode.Dot = false
+is_dots mode.Slash = false
+is_dots mode.Mark = false
+is_dots (mode.Quoted quote hidden) = false
+is_dots mode.Quotation = false
+is_dots mode.LineComment = false
+is_dots (mode.BlockComment star) = false
+is_dots mode.Space = false
+is_dots mode.Directive = false
+is_dots mode.Alien = false
+
+-- no point comes next
+abbrev pub is_other : Option ℕ → Bool
+is_other None = true
+is_other (Some byte) = not (byte == 46)

@@ -1,5 +1,5 @@
 -- What a reader knows of the bytes that it was fed: the parts that ended, and the one that is open.
-use Rattle.std.specs.Prelude.{◌≡◌, ◌+◌, ℕ, Bool, true, List, [], ◌∷◌, ◌++◌, length, Option, Some, None}
+use Rattle.std.specs.Prelude.{◌≡◌, ◌+◌, ◌≤◌, ◌&&◌, ℕ, Bool, true, false, List, [], ◌∷◌, ◌++◌, length, Option, Some, None}
 use Rattle.critical_table.specs.declared.pos.Pos.{Pos}
 use Rattle.critical_table.specs.declared.refusal.Refusal.{Refusal}
 use Rattle.critical_table.specs.declared.refusal.Refusal.TheVariants.{Char, Unclosed, Literal, Directive, Profile}
@@ -8,12 +8,16 @@ use Rattle.c_lexer.specs.declared.ending.Ending.TheVariants as ending
 use Rattle.c_lexer.specs.declared.mode.Mode.{Mode}
 use Rattle.c_lexer.specs.declared.mode.Mode.TheVariants as mode
 use Rattle.c_lexer.specs.declared.place.Place.{Place}
+use Rattle.c_lexer.specs.declared.punct.Punct.TheVariants as p
 use Rattle.c_lexer.specs.declared.reader.Reader.{Reader}
 use Rattle.c_lexer.specs.declared.token.Token.{Token}
 use Rattle.c_lexer.specs.declared.token.Body.{Body}
+use Rattle.c_lexer.specs.declared.token.Body.TheVariants as body
 use Rattle.c_lexer.specs.Directives.{IsDirective}
 use Rattle.c_lexer.specs.Lexing.{start, tokens_of, place_after, place_behind, Splits, IsRefused}
 use Rattle.c_lexer.specs.Open.{IsOpen}
+use Rattle.c_lexer.specs.ReadPart.{first, next, is_dots, is_other}
+use Rattle.c_lexer.specs.Placed.{IsPlaced}
 use Rattle.c_lexer.specs.Parts.{Part, White, Spelled, IsToken}
 
 pub record Reading : Type 0 where
@@ -123,3 +127,36 @@ IsReadOr (Some found) ahead r bytes = (rest : List ℕ) → Follows ahead rest �
 -- the bytes were read so far, or are refused, whatever of this comes behind them
 abbrev pub IsRead : Ahead → Reading → List ℕ → Type 0
 IsRead ahead r bytes = IsReadOr r.refused ahead r bytes
+
+-- where the byte leads, if a part is open and it goes on with it
+abbrev pub next_part : Option Mode → List ℕ → ℕ → Option Mode
+next_part None text byte = None
+next_part (Some here) text byte = next here text byte
+
+-- the byte begins a part, unless the bytes are refused
+abbrev pub BeginsOr : Option (Refusal × Pos) → Reading → ℕ → Reading → Type 0
+BeginsOr None before byte after = after ≡ went_on before (first before.place.fresh byte) byte
+BeginsOr (Some found) before byte after = after ≡ before
+
+-- two points that no third follows
+abbrev pub is_pair : Option Mode → Option ℕ → Bool
+is_pair None next = false
+is_pair (Some here) next = is_dots here && is_other next
+
+-- the last of two points is given back, and the first is a token
+abbrev pub given_back : Reading → List ℕ → ℕ → Reading
+given_back r text point = went_on (added (record r { text = text }) (body.Mark p.Dot)) mode.Dot point
+
+abbrev pub IsParted : Bool → Reading → Reading → Type 0
+IsParted false before after = after ≡ before
+IsParted true before after = (text : List ℕ) (point : ℕ) → before.text ≡ text ++ (point ∷ []) → after ≡ given_back before text point
+
+-- what comes behind the bytes, where this is the next one
+abbrev pub ahead_of : Option ℕ → Ahead
+ahead_of None = End
+ahead_of (Some byte) = Byte byte
+
+-- no further on than its bytes, of which there are so many
+pub record IsWithin (r : Reading) (size : ℕ) : Type 0 where
+  pub placed : IsPlaced r.place
+  pub reach : reach r ≤ size

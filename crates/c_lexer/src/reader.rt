@@ -1,6 +1,8 @@
-ghost use Rattle.std.specs.Prelude.{◌≡◌, ◌+◌, ◌<◌, ◌≤◌, OnOk};
+ghost use Rattle.std.specs.Prelude.{◌≡◌, ◌+◌, ◌≤◌, ℕ, true, List, [], ◌∷◌, ◌++◌, length, OnOk};
+ghost use Rattle.c_lexer.specs.declared.mode.Mode.TheVariants as mode;
 ghost use Rattle.c_lexer.specs.Placed.{IsPlaced};
-ghost use Rattle.c_lexer.specs.Reading as spec;
+ghost use Rattle.c_lexer.specs.ReadPart.{is_other};
+ghost use Rattle.c_lexer.specs.Reading.{reading, unread, went_on, skipped, added, after_ending, Closes, next_part, BeginsOr, IsParted, is_pair, IsRead, Anything, Byte, End, IsWithin, reach};
 
 use crate::ending::{Ending, end_of};
 use crate::mode::Mode;
@@ -27,7 +29,7 @@ pub(crate) struct Reader {
 
 impl Reader {
     pub(crate) fn new(alloc: Global) -> Reader
-        ensures { spec.reading result ≡ spec.unread }
+        ensures { reading result ≡ unread }
     {
         Reader {
             alloc,
@@ -41,7 +43,8 @@ impl Reader {
 
     /// The byte goes on with the open part, or begins one.
     fn go_on(&mut self, mode: Mode, byte: u8) -> Result<(), AllocError>
-        ensures ok { OnOk result (spec.reading self.new ≡ spec.went_on (spec.reading self.old) mode byte) }
+        ensures ok { OnOk result (reading self.new ≡ went_on (reading self.old) mode byte) }
+        ensures within { OnOk result (IsPlaced self.old.place → IsWithin (reading self.new) (reach (reading self.old) + 1)) }
     {
         self.text.push(byte)?;
         self.mode = Some(mode);
@@ -50,10 +53,9 @@ impl Reader {
 
     /// The open part is white space.
     fn skip(&mut self)
-        requires placed { IsPlaced self.old.place }
-        requires room { spec.reach (spec.reading self.old) ≤ 4194304 }
-        ensures value { spec.reading self.new ≡ spec.skipped (spec.reading self.old) }
-        ensures placed { IsPlaced self.new.place }
+        requires { IsWithin (reading self.old) 4194304 }
+        ensures value { reading self.new ≡ skipped (reading self.old) }
+        ensures within { IsWithin (reading self.new) (reach (reading self.old)) }
     {
         self.place = self.place.behind_white(&self.text);
         self.text.clear();
@@ -62,10 +64,9 @@ impl Reader {
 
     /// The open part is this token.
     fn add(&mut self, body: Body) -> Result<(), AllocError>
-        requires placed { IsPlaced self.old.place }
-        requires room { spec.reach (spec.reading self.old) ≤ 4194304 }
-        ensures ok { OnOk result (spec.reading self.new ≡ spec.added (spec.reading self.old) body) }
-        ensures placed { IsPlaced self.new.place }
+        requires { IsWithin (reading self.old) 4194304 }
+        ensures ok { OnOk result (reading self.new ≡ added (reading self.old) body) }
+        ensures within { OnOk result (IsWithin (reading self.new) (reach (reading self.old))) }
     {
         let from = self.place.at;
         let pos = self.place.pos;
@@ -76,4 +77,155 @@ impl Reader {
         self.mode = None;
         Ok(())
     }
+
+    fn end(&mut self, end: Ending) -> Result<(), AllocError>
+        requires { IsWithin (reading self.old) 4194304 }
+        ensures ok { OnOk result (reading self.new ≡ after_ending (reading self.old) end) }
+        ensures within { OnOk result (IsWithin (reading self.new) (reach (reading self.old))) }
+    {
+        match end {
+            Ending::White => {
+                self.skip();
+                Ok(())
+            }
+            Ending::Token(body) => self.add(body),
+            Ending::Refused(why) => {
+                self.refused = Some((why, self.place.pos));
+                Ok(())
+            }
+        }
+    }
+
+    /// Ends the open part, if a part is open.
+    fn close(&mut self) -> Result<(), AllocError>
+        requires { IsWithin (reading self.old) 4194304 }
+        ensures ok { OnOk result (Closes self.old.mode (reading self.old) (reading self.new)) }
+        ensures within { OnOk result (IsWithin (reading self.new) (reach (reading self.old))) }
+    {
+        match self.mode {
+            None => Ok(()),
+            Some(mode) => {
+                let end = end_of(self.alloc, mode, &self.text)?;
+                self.end(end)
+            }
+        }
+    }
+
+    /// Where the byte leads, if a part is open and it goes on with it.
+    fn next(&self, byte: u8) -> Option<Mode>
+        ensures { result ≡ next_part self.now.mode self.now.text.items byte }
+    {
+        match self.mode {
+            None => None,
+            Some(mode) => mode.next(&self.text, byte),
+        }
+    }
+
+    /// The byte begins a part, unless the bytes are refused.
+    fn begin(&mut self, byte: u8) -> Result<(), AllocError>
+        ensures ok { OnOk result (BeginsOr self.old.refused (reading self.old) byte (reading self.new)) }
+        ensures within { OnOk result (IsPlaced self.old.place → IsWithin (reading self.new) (reach (reading self.old) + 1)) }
+    {
+        if self.refused.is_some() {
+            return Ok(());
+        }
+        self.go_on(Mode::first(self.place.fresh, byte), byte)
+    }
+
+    /// The first of two points is a token, and the last is open.
+    fn give_back(&mut self) -> Result<(), AllocError>
+        requires { IsWithin (reading self.old) 4194304 }
+        ensures ok { OnOk result (IsParted true (reading self.old) (reading self.new)) }
+        ensures within { OnOk result (IsWithin (reading self.new) (reach (reading self.old))) }
+    {
+        match self.text.pop() {
+            None => Ok(()),
+            Some(point) => {
+                self.add(Body::Mark(Punct::Dot))?;
+                self.go_on(Mode::Dot, point)
+            }
+        }
+    }
+
+    /// Two points that no third follows are two tokens.
+    fn part_points(&mut self, next: Option<u8>) -> Result<(), AllocError>
+        requires { IsWithin (reading self.old) 4194304 }
+        ensures ok { OnOk result (IsParted (is_pair self.old.mode next) (reading self.old) (reading self.new)) }
+        ensures within { OnOk result (IsWithin (reading self.new) (reach (reading self.old))) }
+    {
+        if is_pair(self.mode, next) {
+            self.give_back()
+        } else {
+            Ok(())
+        }
+    }
+
+    /// The byte goes on with the open part, or ends it and begins the next; two points are no open part before another byte.
+    fn follow(&mut self, byte: u8) -> Result<(), AllocError>
+        requires { IsWithin (reading self.old) 4194303 }
+        ensures read { OnOk result ((bytes : List ℕ) → self.old.refused ≡ None → (self.old.mode ≡ Some mode.Dots → byte ≡ 46) → IsRead (Byte byte) (reading self.old) bytes → IsRead Anything (reading self.new) (bytes ++ (byte ∷ []))) }
+        ensures within { OnOk result (IsWithin (reading self.new) (reach (reading self.old) + 1)) }
+    {
+        match self.next(byte) {
+            Some(mode) => self.go_on(mode, byte),
+            None => {
+                self.close()?;
+                self.begin(byte)
+            }
+        }
+    }
+
+    /// Takes the next byte.
+    fn take(&mut self, byte: u8) -> Result<(), AllocError>
+        requires { IsWithin (reading self.old) 4194303 }
+        ensures read { OnOk result ((bytes : List ℕ) → IsRead Anything (reading self.old) bytes → IsRead Anything (reading self.new) (bytes ++ (byte ∷ []))) }
+        ensures within { OnOk result (IsWithin (reading self.new) (reach (reading self.old) + 1)) }
+    {
+        if self.refused.is_some() {
+            return Ok(());
+        }
+        self.part_points(Some(byte))?;
+        self.follow(byte)
+    }
+
+    /// Takes the next bytes.
+    pub(crate) fn take_all(&mut self, piece: &[u8]) -> Result<(), AllocError>
+        requires placed { IsPlaced self.old.place }
+        requires room { reach (reading self.old) + length piece.now ≤ 4194304 }
+        ensures read { OnOk result ((bytes : List ℕ) → IsRead Anything (reading self.old) bytes → IsRead Anything (reading self.new) (bytes ++ piece.now)) }
+        ensures within { OnOk result (IsWithin (reading self.new) (reach (reading self.old) + length piece.now)) }
+    {
+        for byte in piece {
+            self.take(*byte)?;
+        }
+        Ok(())
+    }
+
+    /// Nothing comes any more: ends what is open.
+    pub(crate) fn finish(&mut self) -> Result<(), AllocError>
+        requires { IsWithin (reading self.old) 4194304 }
+        ensures read { OnOk result ((bytes : List ℕ) → IsRead Anything (reading self.old) bytes → IsRead End (reading self.new) bytes) }
+        ensures whole { OnOk result (self.new.refused ≡ None → self.new.mode ≡ None) }
+    {
+        if self.refused.is_some() {
+            return Ok(());
+        }
+        self.part_points(None)?;
+        self.close()
+    }
+}
+
+fn is_pair(mode: Option<Mode>, next: Option<u8>) -> bool
+    ensures { result ≡ is_pair mode next }
+{
+    match mode {
+        Some(Mode::Dots) => is_other(next),
+        _ => false,
+    }
+}
+
+fn is_other(next: Option<u8>) -> bool
+    ensures { result ≡ is_other next }
+{
+    next != Some(b'.')
 }
