@@ -175,12 +175,12 @@ abbrev is_other : Lead → Bool
 is_other Other = true
 is_other l = false
 
-abbrev may_be_mark : List ℕ → Bool
+abbrev pub may_be_mark : List ℕ → Bool
 may_be_mark [] = false
 may_be_mark (a ∷ []) = not (is_letter a || a == 35 || is_white a)
 may_be_mark (a ∷ b ∷ text) = is_other (lead (a ∷ b ∷ []))
 
-mark_may : (mark : Punct) → may_be_mark (mark_text mark) ≡ true
+pub mark_may : (mark : Punct) → may_be_mark (mark_text mark) ≡ true
 unfolding lead
 mark_may mark = lookup_true may_be_mark marks (mark_text mark) mark refl (mark_full mark)
 

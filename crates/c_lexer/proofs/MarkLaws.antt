@@ -123,7 +123,7 @@ row_sound : (rows : List (List ℕ × Punct)) (bytes : List ℕ) (found : List �
 row_sound [] bytes found all h = absurd (none_found h)
 row_sound (row ∷ rows) bytes found all h = row_now row found rows bytes (starts_with nat_eq bytes row.0) refl all.0 (row_sound rows bytes found all.1) h
 
-right_rows : AllByRecursion (λ row. row.0 ≡ mark_text row.1) marks
+pub right_rows : AllByRecursion (λ row. row.0 ≡ mark_text row.1) marks
 right_rows = (refl, (refl, (refl, (refl, (refl, (refl, (refl, (refl, (refl, (refl, (refl, (refl, (refl, (refl, (refl, (refl, (refl, (refl, (refl, (refl, (refl, (refl, (refl, (refl, (refl, (refl, (refl, (refl, (refl, (refl, (refl, (refl, (refl, (refl, (refl, (refl, (refl, (refl, (refl, (refl, (refl, (refl, (refl, (refl, (refl, (refl, tt))))))))))))))))))))))))))))))))))))))))))))))
 
 read_sound : (bytes : List ℕ) (o : Option (List ℕ × Punct)) (r : Option (Punct × ℕ)) → first_of marks bytes ≡ o → r ≡ measured o → IfSome r (λ found. IsLongestMark bytes found.0 found.1) × IfNone r ((mark : Punct) (after : List ℕ) → bytes ≡ mark_text mark ++ after → ⊥)

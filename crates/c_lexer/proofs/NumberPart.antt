@@ -34,7 +34,7 @@ all_weaker p q (x ∷ xs) weaker all =
     let parts = and_parts (p x) (list_all p xs) all in
     and_from _ _ (weaker x parts.0) (all_weaker p q xs weaker parts.1)
 
-digit_word : (base : Base) (byte : ℕ) → is_in (digits_of base) byte ≡ true → is_word_byte byte ≡ true
+pub digit_word : (base : Base) (byte : ℕ) → is_in (digits_of base) byte ≡ true → is_word_byte byte ≡ true
 digit_word Decimal byte digit = or_right (is_letter byte) (is_ascii_digit byte) digit
 digit_word Octal byte digit = or_right (is_letter byte) (is_ascii_digit byte) (octal_digit byte digit)
 digit_word Hexadecimal byte digit = grind (arith, digit)

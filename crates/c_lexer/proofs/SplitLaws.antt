@@ -66,7 +66,7 @@ empty_front : (text after : List ℕ) → [] ≡ text ++ after → text ≡ []
 empty_front [] after none = refl
 empty_front (byte ∷ text) after none = absurd (cc)
 
-mark_some : (mark : Punct) → mark_text mark ≡ [] → ⊥
+pub mark_some : (mark : Punct) → mark_text mark ≡ [] → ⊥
 mark_some mark none = none_found (sym (ap (lookup marks) none) ∙ mark_full mark)
 
 no_bytes : (fresh : Bool) → IsEnd fresh []

@@ -20,3 +20,4 @@ pub mod ReadPart
 pub mod Open
 pub mod Placed
 pub mod Reading
+pub mod Feeding

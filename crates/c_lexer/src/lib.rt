@@ -8,6 +8,7 @@ mod comment;
 mod directive;
 mod ending;
 mod fault;
+mod lexer;
 mod mode;
 mod number;
 mod place;
@@ -22,6 +23,7 @@ mod units;
 mod word;
 
 pub use fault::LexFault;
+pub use lexer::{Lexer, lex};
 pub use number::Number;
 pub use punct::Punct;
 pub use token::{Body, Token};

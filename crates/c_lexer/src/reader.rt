@@ -1,14 +1,18 @@
-ghost use Rattle.std.specs.Prelude.{◌≡◌, ◌+◌, ◌≤◌, ℕ, true, List, [], ◌∷◌, ◌++◌, length, OnOk};
+ghost use Rattle.std.specs.Prelude.{◌≡◌, ◌+◌, ◌≤◌, ℕ, true, List, [], ◌∷◌, ◌++◌, length, OnOk, IfOk, IfErr};
+ghost use Rattle.c_lexer.specs.Lexing.{AreTokens, greatest_size};
+ghost use Rattle.c_lexer.specs.Feeding.{IsUnread};
 ghost use Rattle.c_lexer.specs.declared.mode.Mode.TheVariants as mode;
 ghost use Rattle.c_lexer.specs.Placed.{IsPlaced};
 ghost use Rattle.c_lexer.specs.ReadPart.{is_other};
 ghost use Rattle.c_lexer.specs.Reading.{reading, unread, went_on, skipped, added, after_ending, Closes, next_part, BeginsOr, IsParted, is_pair, IsRead, Anything, Byte, End, IsWithin, reach};
 
 use crate::ending::{Ending, end_of};
+use crate::fault::LexFault;
 use crate::mode::Mode;
 use crate::place::Place;
 use crate::punct::Punct;
 use crate::token::{Body, Token};
+use crate::tokens::Tokens;
 use critical_table::{Pos, Refusal};
 use std::alloc::{AllocError, Global};
 
@@ -212,6 +216,19 @@ impl Reader {
         }
         self.part_points(None)?;
         self.close()
+    }
+
+    /// The tokens that were read, or why there are none, where nothing comes any more.
+    pub(crate) fn into_tokens(mut self) -> Result<Tokens, LexFault>
+        requires { IsWithin (reading self) greatest_size }
+        ensures tokens { IfOk result (λ stream. (bytes : List ℕ) → IsRead Anything (reading self) bytes → AreTokens bytes stream) }
+        ensures refused { IfErr result (λ fault. (bytes : List ℕ) → IsRead Anything (reading self) bytes → IsUnread bytes fault) }
+    {
+        self.finish()?;
+        match self.refused {
+            Some((why, pos)) => Err(LexFault::Refused(why, pos)),
+            None => Ok(Tokens::new(self.tokens, self.place.pos)),
+        }
     }
 }
 
