@@ -27,5 +27,6 @@ pub mod QuotePart
 pub mod CommentPart
 pub mod LinePart
 pub mod MarkPart
+pub mod MarkFronts
 pub mod SplitLaws
 pub mod Examples
