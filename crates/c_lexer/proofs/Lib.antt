@@ -19,6 +19,7 @@ pub mod EndLaws
 pub mod SplitMore
 pub mod ReaderLaws
 pub mod TakeLaws
+pub mod AnswerLaws
 pub mod PlaceLaws
 pub mod Leads
 pub mod WordPart

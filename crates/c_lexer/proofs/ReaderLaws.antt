@@ -1,7 +1,6 @@
 -- What a reader knows after each of its steps.
-use Rattle.std.proofs.Common.{◌≡◌, ◌⊎◌, inl, inr, ℕ, ◌<◌, ◌==◌, List, [], ◌∷◌, ◌++◌, Bool, true, false, length, refl, sym, ◌∙◌, ap, subst, arith, append_assoc, append-nil, length-append}
-use Rattle.std.proofs.lemmas.Bool.{eqb-true, eq-eqb, false≢true}
-use Rattle.std.specs.Prelude.{Option, Some, None, not}
+use Rattle.std.proofs.Common.{◌≡◌, ℕ, ◌<◌, List, [], ◌∷◌, ◌++◌, true, length, refl, sym, ◌∙◌, ap, subst, arith, append_assoc, append-nil, length-append}
+use Rattle.std.specs.Prelude.{Option, Some, None}
 use Rattle.critical_table.specs.declared.refusal.Refusal.{Refusal}
 use Rattle.critical_table.specs.declared.pos.Pos.{Pos}
 use Rattle.c_lexer.specs.declared.ending.Ending.{Ending}
@@ -12,11 +11,11 @@ use Rattle.c_lexer.specs.declared.place.Place.{Place}
 use Rattle.c_lexer.specs.declared.punct.Punct.TheVariants as p
 use Rattle.c_lexer.specs.declared.token.Body.{Body}
 use Rattle.c_lexer.specs.declared.token.Body.TheVariants as body
-use Rattle.c_lexer.specs.Lexing.{start, behind, place_behind, tokens_of, place_after, Stands, Splits, AreTokens, IsRefused}
+use Rattle.c_lexer.specs.Lexing.{start, place_behind, tokens_of, Stands, Splits, AreTokens, IsRefused}
 use Rattle.c_lexer.specs.Open.{IsOpen}
 use Rattle.c_lexer.specs.Parts.{White, Spelled}
 use Rattle.c_lexer.specs.ReadPart.{first, next}
-use Rattle.c_lexer.specs.Reading.{Reading, Ahead, Anything, Byte, End, Follows, Stood, IsOpenPart, IsRead, IsReadOr, Ends, Closes, unread, went_on, skipped, added, stopped, after_ending, next_part, BeginsOr, IsParted, is_pair, given_back, ahead_of}
+use Rattle.c_lexer.specs.Reading.{Reading, Ahead, Anything, Byte, End, Follows, Stood, IsOpenPart, IsRead, IsReadOr, Ends, Closes, unread, went_on, skipped, added, stopped, after_ending, IsParted, given_back}
 use Rattle.c_lexer.proofs.EndLaws.{Stops, IsNone, ends, point_stands}
 use Rattle.c_lexer.proofs.OpenLaws.{opens, goes_on, some_open}
 use Rattle.c_lexer.proofs.SplitMore.{token_at, splits_more, place_more, white_more, token_more, pos_after}
@@ -135,3 +134,8 @@ finished r bytes none at read =
     let nothing : r.text ≡ [] = subst (λ o. IsOpenPart r.place.fresh o r.text) at s.part in
     let split : Splits true bytes s.parts [] = subst (λ b. Splits true b s.parts []) (append-nil bytes) (subst (λ t. Splits true (bytes ++ []) s.parts (t ++ [])) nothing (s.split [] refl)) in
     record { parts = s.parts; split = split; tokens = s.tokens; end = ap (λ (place : Place). place.pos) s.place ∙ sym (pos_after start s.parts bytes [] split) }
+
+pub refused_end : (r : Reading) (found : Refusal × Pos) (bytes : List ℕ) → r.refused ≡ Some found → IsRead End r bytes → IsRefused bytes found.0 found.1
+refused_end r found bytes some read =
+    let refused = subst (λ o. IsReadOr o End r bytes) some read in
+    subst (λ b. IsRefused b found.0 found.1) (append-nil bytes) (refused [] refl)

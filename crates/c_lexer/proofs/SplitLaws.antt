@@ -1,5 +1,5 @@
 -- The bytes of a unit are split in one way, so they are one list of tokens or are refused at one place for one reason.
-use Rattle.std.proofs.Common.{◌≡◌, ◌⊎◌, inl, inr, ℕ, List, [], ◌∷◌, ◌++◌, Bool, length, take, drop, refl, sym, ◌∙◌, ap, subst, arith}
+use Rattle.std.proofs.Common.{◌≡◌, ◌⊎◌, inl, inr, ℕ, ◌<◌, List, [], ◌∷◌, ◌++◌, Bool, false, length, take, drop, refl, sym, ◌∙◌, ap, subst, arith}
 use Rattle.std.proofs.Math.Seq.{take-append_seam, drop-append_seam}
 use Rattle.critical_table.specs.declared.pos.Pos.{Pos}
 use Rattle.critical_table.specs.declared.refusal.Refusal.{Refusal}
@@ -7,7 +7,6 @@ use Rattle.critical_table.specs.declared.refusal.Refusal.TheVariants.{Size, Char
 use Rattle.c_lexer.specs.declared.punct.Punct.{Punct}
 use Rattle.c_lexer.specs.declared.place.Place.{Place}
 use Rattle.c_lexer.specs.declared.token.Body.{Body}
-use Rattle.c_lexer.specs.declared.token.Body.TheVariants as body
 use Rattle.c_lexer.specs.Stream.{Stream}
 use Rattle.c_lexer.specs.Lookup.{lookup}
 use Rattle.c_lexer.specs.Marks.{mark_text, marks}
@@ -75,6 +74,12 @@ no_bytes fresh (White text) after stands = subst (λ t. Admits (lead t) (White t
 no_bytes fresh (Spelled text token) after stands =
     let mark = subst (λ t. Admits (lead t) (Spelled text token)) (sym stands.parts) (admitted fresh (Spelled text token) after stands.is) in
     mark_some mark.0 (sym (subst (IsToken text) mark.1 stands.is) ∙ empty_front text after stands.parts)
+
+-- a token has bytes
+pub spelled_some : (text : List ℕ) (token : Body) → IsToken text token → 0 < length text
+unfolding lead
+spelled_some [] token is = (let mark = admitted false (Spelled [] token) [] is in absurd (mark_some mark.0 (sym (subst (IsToken []) mark.1 is))))
+spelled_some (byte ∷ text) token is = omega arith
 
 -- the bytes are split in one way up to where no part can stand
 one_split : (place : Place) (bytes : List ℕ) (ps qs : List Part) (left rest : List ℕ) → Splits place.fresh bytes ps left → Splits place.fresh bytes qs rest → IsEnd (place_after place ps).fresh left → IsEnd (place_after place qs).fresh rest → (ps ≡ qs) × (left ≡ rest)

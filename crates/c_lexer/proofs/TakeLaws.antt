@@ -1,15 +1,15 @@
 -- What a reader knows after one byte more, and at the end.
 use Rattle.std.proofs.Common.{◌≡◌, ◌⊎◌, inl, inr, ℕ, ◌==◌, ◌&&◌, List, [], ◌∷◌, ◌++◌, Bool, true, false, refl, sym, ◌∙◌, ap, subst}
-use Rattle.std.proofs.lemmas.Bool.{eqb-true, eq-eqb, false≢true, and_parts}
-use Rattle.std.specs.Prelude.{Option, Some, None, not}
+use Rattle.std.proofs.lemmas.Bool.{eqb-true, eq-eqb, false≢true}
+use Rattle.std.specs.Prelude.{Option, Some, None}
 use Rattle.critical_table.specs.declared.refusal.Refusal.{Refusal}
 use Rattle.critical_table.specs.declared.pos.Pos.{Pos}
 use Rattle.c_lexer.specs.declared.ending.Ending.{Ending}
 use Rattle.c_lexer.specs.declared.ending.Ending.TheVariants as ending
 use Rattle.c_lexer.specs.declared.mode.Mode.{Mode}
 use Rattle.c_lexer.specs.declared.mode.Mode.TheVariants as mode
-use Rattle.c_lexer.specs.ReadPart.{first, next, only, is_dots, is_other}
-use Rattle.c_lexer.specs.Reading.{Reading, Ahead, Anything, Byte, End, Follows, IsRead, Ends, Closes, went_on, after_ending, next_part, BeginsOr, IsParted, is_pair, ahead_of}
+use Rattle.c_lexer.specs.ReadPart.{next, only, is_dots, is_other}
+use Rattle.c_lexer.specs.Reading.{Reading, Ahead, Anything, Byte, End, Follows, IsRead, Closes, went_on, after_ending, next_part, BeginsOr, IsParted, is_pair, ahead_of}
 use Rattle.c_lexer.proofs.Cases.{none_found, not_false, not_is_false}
 use Rattle.c_lexer.proofs.EndLaws.{Stops}
 use Rattle.c_lexer.proofs.ReaderLaws.{closes, went, begun, stays, gives_back}

@@ -4,7 +4,7 @@ use Rattle.std.proofs.lemmas.Result.{on_ok_weaker}
 use Rattle.c_lexer.specs.Reading.{reading, Closes, End}
 use Rattle.c_lexer.proofs.Cases.{nothing_some, none_found}
 use Rattle.c_lexer.proofs.ReaderLaws.{narrows}
-use Rattle.c_lexer.proofs.TakeLaws.{parts, last_closed, nothing_open}
+use Rattle.c_lexer.proofs.TakeLaws.{parts, last_closed}
 use Rattle.c_lexer.proofs.reader.Reader.finish.Goals as goal
 
 pub returns-clause-read : goal.returns-clause-read

@@ -1,7 +1,6 @@
 use Rattle.std.proofs.Common.{◌≡◌, [], ◌∷◌, ◌++◌, refl, sym, ◌∙◌, subst}
-use Rattle.std.specs.Prelude.{Some, None}
 use Rattle.std.proofs.lemmas.Result.{on_ok_weaker}
-use Rattle.c_lexer.specs.Reading.{Reading, reading, IsRead, Anything, went_on, BeginsOr}
+use Rattle.c_lexer.specs.Reading.{reading, IsRead, Anything, went_on, BeginsOr}
 use Rattle.c_lexer.proofs.TakeLaws.{turned, followed}
 use Rattle.c_lexer.proofs.reader.Reader.follow.Goals as goal
 

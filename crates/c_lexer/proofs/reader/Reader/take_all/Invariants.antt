@@ -1,4 +1,4 @@
-use Rattle.std.proofs.Common.{◌≡◌, ◌+◌, ℕ, List, ◌++◌, length, take}
+use Rattle.std.proofs.Common.{◌+◌, ℕ, List, ◌++◌, take}
 use Rattle.c_lexer.specs.Reading.{reading, IsRead, Anything, IsWithin, reach}
 use Rattle.c_lexer.proofs.reader.Reader.take_all.Given as goal
 
