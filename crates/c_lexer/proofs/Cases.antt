@@ -1,5 +1,5 @@
 -- Which way a test went.
-use Rattle.std.proofs.Common.{◌≡◌, ◌⊎◌, inl, inr, ℕ, Bool, true, false, ◌==◌, ◌||◌, cond, refl}
+use Rattle.std.proofs.Common.{◌≡◌, ◌⊎◌, inl, inr, ℕ, Bool, true, false, ◌==◌, ◌||◌, cond, refl, sym, ◌∙◌, ap}
 use Rattle.std.proofs.lemmas.Bool.{eqb-true, false≢true}
 use Rattle.std.specs.Prelude.{Some, None, not}
 
@@ -24,3 +24,10 @@ none_found h = cc
 pub not_false : (b : Bool) → not b ≡ true → b ≡ false
 not_false true h = absurd (false≢true h)
 not_false false h = refl
+
+-- a byte of a class is none that is outside of it
+pub told_apart : (class : ℕ → Bool) (a b : ℕ) → class a ≡ true → class b ≡ false → a ≡ b → ⊥
+told_apart class a b inside outside same = false≢true (sym outside ∙ (ap class (sym same) ∙ inside))
+
+pub other_byte : (class : ℕ → Bool) (value byte : ℕ) → class value ≡ false → class byte ≡ true → (byte == value) ≡ false
+other_byte class value byte outside inside = neq-eqb byte value (told_apart class byte value inside outside)

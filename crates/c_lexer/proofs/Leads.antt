@@ -1,6 +1,6 @@
 -- What may stand at a place, and which rows may fit there, by the two bytes at the front.
 use Rattle.std.proofs.Common.{◌≡◌, ◌⊎◌, inl, inr, ℕ, List, [], ◌∷◌, ◌++◌, Bool, true, false, ◌==◌, ◌||◌, ◌&&◌, cond, length, take, zero, suc, refl, sym, ◌∙◌, ap, subst, arith, append_assoc}
-use Rattle.std.proofs.lemmas.Bool.{and_parts, and_from, or_from, or_parts, eqb-true, false≢true}
+use Rattle.std.proofs.lemmas.Bool.{and_parts, and_from, and_left, and_right, or_from, or_parts, eqb-true, false≢true}
 use Rattle.std.specs.Prelude.{slice_index, not, ◌≢◌}
 use Rattle.std.specs.List.{list_all, flat_map, prefix_len}
 use Rattle.std.specs.Char.{is_ascii_digit}
@@ -11,7 +11,7 @@ use Rattle.c_lexer.specs.declared.punct.Punct.{Punct}
 use Rattle.c_lexer.specs.declared.word.Word.{Word}
 use Rattle.c_lexer.specs.declared.token.Body.{Body}
 use Rattle.c_lexer.specs.declared.token.Body.TheVariants as body
-use Rattle.c_lexer.specs.Bytes.{is_letter, is_word_byte, is_white}
+use Rattle.c_lexer.specs.Bytes.{is_letter, is_word_byte, is_white, is_quote}
 use Rattle.c_lexer.specs.Words.{word_text, words, word_of, outside_words, is_outside}
 use Rattle.c_lexer.specs.Marks.{mark_text, marks}
 use Rattle.c_lexer.specs.Numbers.{IsNumber}
@@ -19,12 +19,11 @@ use Rattle.c_lexer.specs.Characters.{opening, item_text}
 use Rattle.c_lexer.specs.Comments.{IsBlockComment, IsLineComment}
 use Rattle.c_lexer.specs.Directives.{IsDirective}
 use Rattle.c_lexer.specs.Parts.{Part, White, Spelled, part_text, IsPart, IsWhite}
-use Rattle.c_lexer.specs.Rows.{begins_number, Fits, OpenComment}
-use Rattle.c_lexer.specs.Lexing.{Stands}
-use Rattle.c_lexer.proofs.Cases.{either, neq-eqb, not_true, not_false}
+use Rattle.c_lexer.specs.Rows.{begins_number, Fits, IsFirstRow}
+use Rattle.c_lexer.proofs.Cases.{either, other_byte, not_true, not_false}
 use Rattle.c_lexer.proofs.Tables.{lookup_true, listed_true}
 use Rattle.c_lexer.proofs.WordLaws.{word_full}
-use Rattle.c_lexer.proofs.TokenLaws.{and_last, mark_full, number_first}
+use Rattle.c_lexer.proofs.TokenLaws.{mark_full, number_first}
 
 -- a quote, or L and a quote; a letter; a digit, or a point and a digit; what begins a comment; a #; one of the six bytes; none of these
 pub data Lead : Type 0 where
@@ -35,9 +34,6 @@ pub data Lead : Type 0 where
   Hash : Lead
   Space : Lead
   Other : Lead
-
-abbrev pub is_quote : ℕ → Bool
-is_quote byte = byte == 34 || byte == 39
 
 unfoldable pub lead : List ℕ → Lead
 lead bytes =
@@ -75,17 +71,22 @@ Admits Space (Spelled text token) = ⊥
 Admits Other (White text) = ⊥
 Admits Other (Spelled text token) = (mark : Punct) × (token ≡ body.Mark mark)
 
--- a byte of a class is none that is outside of it
-other_byte : (class : ℕ → Bool) (value byte : ℕ) → class value ≡ false → class byte ≡ true → (byte == value) ≡ false
-other_byte class value byte outside inside = neq-eqb byte value (λ (e : byte ≡ value). false≢true (sym outside ∙ (ap class (sym e) ∙ inside)))
-
 no_quote_in : (class : ℕ → Bool) (byte : ℕ) → class 34 ≡ false → class 39 ≡ false → class byte ≡ true → is_quote byte ≡ false
 no_quote_in class byte double single inside = or_from _ _ (other_byte class 34 byte double inside) (other_byte class 39 byte single inside)
 
-pub quoted_lead : (wide : Bool) (quote : ℕ) (bytes rest : List ℕ) → is_quote quote ≡ true → bytes ≡ opening wide ++ (quote ∷ rest) → lead bytes ≡ Quoted
+-- 34 and 39 are the double and the single quote
+abbrev pub IsQuote : ℕ → Type 0
+IsQuote quote = (quote ≡ 34) ⊎ (quote ≡ 39)
+
+-- what holds of both quotes
+pub each_quote : (P : ℕ → Type 0) (quote : ℕ) → IsQuote quote → P 34 → P 39 → P quote
+each_quote P quote (inl is) double single = subst P (sym is) double
+each_quote P quote (inr is) double single = subst P (sym is) single
+
+pub quoted_lead : (wide : Bool) (quote : ℕ) (bytes rest : List ℕ) → IsQuote quote → bytes ≡ opening wide ++ (quote ∷ rest) → lead bytes ≡ Quoted
 unfolding lead
-quoted_lead false quote bytes rest is parts = rw (parts, is) refl
-quoted_lead true quote bytes rest is parts = rw (parts, is) refl
+quoted_lead false quote bytes rest is parts = ap lead parts ∙ each_quote (λ q. lead (q ∷ rest) ≡ Quoted) quote is refl refl
+quoted_lead true quote bytes rest is parts = ap lead parts ∙ each_quote (λ q. lead (76 ∷ q ∷ rest) ≡ Quoted) quote is refl refl
 
 run_lead : (bytes : List ℕ) → is_letter (slice_index bytes 0) ≡ true → lead bytes ≡ cond (slice_index bytes 0 == 76 && is_quote (slice_index bytes 1)) Quoted Letter
 unfolding lead
@@ -95,7 +96,7 @@ pub letter_lead : (bytes : List ℕ) → is_letter (slice_index bytes 0) ≡ tru
 letter_lead bytes letter unquoted = run_lead bytes letter ∙ ap (λ t. cond t Quoted Letter) unquoted
 
 pub longer_lead : (a b : ℕ) (bytes : List ℕ) → is_letter a ≡ true → is_word_byte b ≡ true → lead (a ∷ b ∷ bytes) ≡ Letter
-longer_lead a b bytes letter word = letter_lead (a ∷ b ∷ bytes) letter (and_last (a == 76) (is_quote b) (no_quote_in is_word_byte b refl refl word))
+longer_lead a b bytes letter word = letter_lead (a ∷ b ∷ bytes) letter (and_right (a == 76) (is_quote b) (no_quote_in is_word_byte b refl refl word))
 
 digit_no_letter : (byte : ℕ) → is_ascii_digit byte ≡ true → is_letter byte ≡ false
 digit_no_letter byte digit = not_true (is_letter byte) (λ letter. grind (arith, letter, digit))
@@ -166,7 +167,7 @@ number_admitted : (text after : List ℕ) (number : Number) → IsNumber text nu
 number_admitted text after number is =
     subst (λ l. Admits l (Spelled text (body.Number number))) (sym (digit_front text after (number_first is.base is.before is.after text number is.parts is.prefix is.constant))) (inr (number, refl))
 
-quoted_front : (wide : Bool) (quote : ℕ) (text after rest : List ℕ) → is_quote quote ≡ true → text ≡ opening wide ++ (quote ∷ rest) → lead (text ++ after) ≡ Quoted
+quoted_front : (wide : Bool) (quote : ℕ) (text after rest : List ℕ) → IsQuote quote → text ≡ opening wide ++ (quote ∷ rest) → lead (text ++ after) ≡ Quoted
 quoted_front wide quote text after rest is parts =
     quoted_lead wide quote (text ++ after) (rest ++ after) is (ap (λ t. t ++ after) parts ∙ append_assoc (opening wide) (quote ∷ rest) after)
 
@@ -215,23 +216,23 @@ mark_front (a ∷ []) after mark may =
     subst (λ l. Admits l (Spelled (a ∷ []) (body.Mark mark))) (sym (byte_lead (a ∷ after) (not_false _ may))) (byte_admits _ _ _ a mark)
 mark_front (a ∷ b ∷ text) after mark may = other_admits (lead (a ∷ b ∷ (text ++ after))) (a ∷ b ∷ text) mark may
 
-pub comment_front : (text rest after : List ℕ) (second : ℕ) → (second == 47 || second == 42) ≡ true → text ≡ 47 ∷ second ∷ rest → lead (text ++ after) ≡ Comment
+pub comment_lead : {second : ℕ} {rest : List ℕ} (bytes : List ℕ) → bytes ≡ 47 ∷ second ∷ rest → (second == 47 || second == 42) ≡ true → lead bytes ≡ Comment
 unfolding lead
-comment_front text rest after second is parts = rw (parts, is) refl
+comment_lead bytes parts is = rw (parts, is) refl
 
-pub hash_front : (text rest after : List ℕ) → text ≡ 35 ∷ rest → lead (text ++ after) ≡ Hash
+pub hash_lead : {rest : List ℕ} (bytes : List ℕ) → bytes ≡ 35 ∷ rest → lead bytes ≡ Hash
 unfolding lead
-hash_front text rest after parts = rw parts refl
+hash_lead bytes parts = ap lead parts
 
 white_admitted : (fresh : Bool) (text after : List ℕ) → IsWhite fresh text after → Admits (lead (text ++ after)) (White text)
 white_admitted fresh text after (inl white) =
     subst (λ l. Admits l (White text)) (sym (ap (λ t. lead (t ++ after)) white.1 ∙ white_lead white.0 after white.2)) (ap length white.1)
-white_admitted fresh text after (inr (inl line)) = subst (λ l. Admits l (White text)) (sym (comment_front text line.body after 47 refl line.parts)) (inl line)
+white_admitted fresh text after (inr (inl line)) = subst (λ l. Admits l (White text)) (sym (comment_lead (text ++ after) (ap (λ t. t ++ after) line.parts) refl)) (inl line)
 white_admitted fresh text after (inr (inr (inl block))) =
-    subst (λ l. Admits l (White text)) (sym (comment_front text (block.body ++ (42 ∷ 47 ∷ [])) after 42 refl block.parts)) (inr block)
+    subst (λ l. Admits l (White text)) (sym (comment_lead (text ++ after) (ap (λ t. t ++ after) block.parts) refl)) (inr block)
 white_admitted fresh text after (inr (inr (inr directive))) =
     let is = directive.1 in
-    subst (λ l. Admits l (White text)) (sym (hash_front text (is.before ++ is.text) after is.parts)) is
+    subst (λ l. Admits l (White text)) (sym (hash_lead (text ++ after) (ap (λ t. t ++ after) is.parts))) is
 
 pub admitted : (fresh : Bool) (part : Part) (after : List ℕ) → IsPart fresh part after → Admits (lead (part_text part ++ after)) part
 admitted fresh (White text) after is = white_admitted fresh text after is
@@ -239,9 +240,9 @@ admitted fresh (Spelled text (body.Word word)) after is = word_admitted text aft
 admitted fresh (Spelled text (body.Name name)) after is = run_admitted text after (body.Name name) is.1.first is.1.each
 admitted fresh (Spelled text (body.Number number)) after is = number_admitted text after number is
 admitted fresh (Spelled text (body.Character value wide)) after is =
-    subst (λ l. Admits l (Spelled text (body.Character value wide))) (sym (quoted_front wide 39 text after (item_text is.item ++ (39 ∷ [])) refl is.parts)) (inr tt)
+    subst (λ l. Admits l (Spelled text (body.Character value wide))) (sym (quoted_front wide 39 text after (item_text is.item ++ (39 ∷ [])) (inr refl) is.parts)) (inr tt)
 admitted fresh (Spelled text (body.Literal units wide)) after is =
-    subst (λ l. Admits l (Spelled text (body.Literal units wide))) (sym (quoted_front wide 34 text after (flat_map item_text is.items ++ (34 ∷ [])) refl is.parts)) (inr tt)
+    subst (λ l. Admits l (Spelled text (body.Literal units wide))) (sym (quoted_front wide 34 text after (flat_map item_text is.items ++ (34 ∷ [])) (inl refl) is.parts)) (inr tt)
 admitted fresh (Spelled text (body.Mark mark)) after is = mark_front text after mark (ap may_be_mark is ∙ mark_may mark)
 
 pub admitted_at : (fresh : Bool) (bytes : List ℕ) (l : Lead) (other : Part) (after : List ℕ) → lead bytes ≡ l → bytes ≡ part_text other ++ after → IsPart fresh other after → Admits l other
@@ -256,47 +257,50 @@ taken_lead zero bytes other = absurd (false≢true other)
 taken_lead (suc n) [] other = absurd (false≢true other)
 taken_lead (suc n) (a ∷ bytes) other =
     let parts = and_parts (is_letter a) (not (a == 76)) other in
-    letter_lead (a ∷ bytes) parts.0 (ap (λ t. t && is_quote (slice_index bytes 0)) (not_false (a == 76) parts.1))
+    letter_lead (a ∷ bytes) parts.0 (and_left _ _ (not_false (a == 76) parts.1))
 
 outside_first : (text : List ℕ) → is_outside text ≡ true → is_other_letter (slice_index text 0) ≡ true
 unfolding is_outside
 outside_first text outside = listed_true (λ t. is_other_letter (slice_index t 0)) outside_words text refl outside
 
--- which rows fit behind which bytes
-pub profile_lead : (fresh : Bool) (bytes : List ℕ) → Fits fresh bytes Profile → lead bytes ≡ Letter
-profile_lead fresh bytes fits = taken_lead (prefix_len is_word_byte bytes) bytes (outside_first (take (prefix_len is_word_byte bytes) bytes) fits)
+-- where each row can fit
+abbrev pub may_fit : Refusal → Lead → Bool
+may_fit Profile Letter = true
+may_fit Literal Quoted = true
+may_fit Literal Digit = true
+may_fit Unclosed Quoted = true
+may_fit Unclosed Comment = true
+may_fit Directive Hash = true
+may_fit Char at = true
+may_fit why at = false
 
-pub literal_lead : (fresh : Bool) (bytes : List ℕ) → Fits fresh bytes Literal → (lead bytes ≡ Digit) ⊎ (lead bytes ≡ Quoted)
-literal_lead fresh bytes (inl number) = inl (number_lead bytes number.0)
-literal_lead fresh bytes (inr (inl character)) = inr (quoted_lead character.wide 39 bytes (character.inner ++ (39 ∷ character.after)) refl character.parts)
-literal_lead fresh bytes (inr (inr literal)) = inr (quoted_lead literal.wide 34 bytes (literal.inner ++ (34 ∷ literal.after)) refl literal.parts)
+fits_there : (fresh : Bool) (bytes : List ℕ) (why : Refusal) → Fits fresh bytes why → may_fit why (lead bytes) ≡ true
+fits_there fresh bytes Profile fits = ap (may_fit Profile) (taken_lead (prefix_len is_word_byte bytes) bytes (outside_first (take (prefix_len is_word_byte bytes) bytes) fits))
+fits_there fresh bytes Literal (inl number) = ap (may_fit Literal) (number_lead bytes number.0)
+fits_there fresh bytes Literal (inr (inl character)) = ap (may_fit Literal) (quoted_lead character.wide 39 bytes (character.inner ++ (39 ∷ character.after)) (inr refl) character.parts)
+fits_there fresh bytes Literal (inr (inr literal)) = ap (may_fit Literal) (quoted_lead literal.wide 34 bytes (literal.inner ++ (34 ∷ literal.after)) (inl refl) literal.parts)
+fits_there fresh bytes Unclosed (inl comment) = ap (may_fit Unclosed) (comment_lead bytes comment.parts refl)
+fits_there fresh bytes Unclosed (inr (inl single)) = ap (may_fit Unclosed) (quoted_lead single.wide 39 bytes single.rest (inr refl) single.parts)
+fits_there fresh bytes Unclosed (inr (inr double)) = ap (may_fit Unclosed) (quoted_lead double.wide 34 bytes double.rest (inl refl) double.parts)
+fits_there fresh bytes Directive fits = ap (may_fit Directive) (hash_lead bytes fits.1.parts)
+fits_there fresh bytes Char fits = refl
+fits_there fresh bytes Size fits = absurd fits
+fits_there fresh bytes Syntax fits = absurd fits
+fits_there fresh bytes Deep fits = absurd fits
+fits_there fresh bytes (Constraint number) fits = absurd fits
 
-comment_lead : (bytes : List ℕ) → OpenComment bytes → lead bytes ≡ Comment
-unfolding lead
-comment_lead bytes comment = ap lead comment.parts
+-- a row fits nowhere else
+pub no_fit : {at : Lead} (fresh : Bool) (bytes : List ℕ) (why : Refusal) → lead bytes ≡ at → may_fit why at ≡ false → Fits fresh bytes why → ⊥
+no_fit fresh bytes why at never fits = false≢true (sym never ∙ (ap (may_fit why) (sym at) ∙ fits_there fresh bytes why fits))
 
-pub unclosed_lead : (fresh : Bool) (bytes : List ℕ) → Fits fresh bytes Unclosed → (lead bytes ≡ Comment) ⊎ (lead bytes ≡ Quoted)
-unclosed_lead fresh bytes (inl comment) = inl (comment_lead bytes comment)
-unclosed_lead fresh bytes (inr (inl single)) = inr (quoted_lead single.wide 39 bytes single.rest refl single.parts)
-unclosed_lead fresh bytes (inr (inr double)) = inr (quoted_lead double.wide 34 bytes double.rest refl double.parts)
-
-pub directive_lead : (fresh : Bool) (bytes : List ℕ) → Fits fresh bytes Directive → lead bytes ≡ Hash
-unfolding lead
-directive_lead fresh bytes fits = ap lead fits.1.parts
-
--- no part stands where a row other than Char fits
-pub no_part : (fresh : Bool) (bytes : List ℕ) (why : Refusal) → Fits fresh bytes why → (why ≡ Char → ⊥) → (part : Part) (after : List ℕ) → Stands fresh bytes part after → ⊥
-no_part fresh bytes why fits other part after stands = stands.no_row why other fits
-
--- no row fits where these four don't
-pub no_row_of : (fresh : Bool) (bytes : List ℕ) → (Fits fresh bytes Profile → ⊥) → (Fits fresh bytes Literal → ⊥) → (Fits fresh bytes Unclosed → ⊥) → (Fits fresh bytes Directive → ⊥)
-    → (why : Refusal) → why ≢ Char → Fits fresh bytes why → ⊥
-no_row_of fresh bytes profile literal unclosed directive Profile other fits = profile fits
-no_row_of fresh bytes profile literal unclosed directive Literal other fits = literal fits
-no_row_of fresh bytes profile literal unclosed directive Unclosed other fits = unclosed fits
-no_row_of fresh bytes profile literal unclosed directive Directive other fits = directive fits
-no_row_of fresh bytes profile literal unclosed directive Char other fits = other refl
-no_row_of fresh bytes profile literal unclosed directive Size other fits = fits
-no_row_of fresh bytes profile literal unclosed directive Syntax other fits = fits
-no_row_of fresh bytes profile literal unclosed directive Deep other fits = fits
-no_row_of fresh bytes profile literal unclosed directive (Constraint number) other fits = fits
+-- no other row fits where Char is the first that does
+pub no_row : (fresh : Bool) (bytes : List ℕ) → IsFirstRow fresh bytes Char → (why : Refusal) → why ≢ Char → Fits fresh bytes why → ⊥
+no_row fresh bytes none Profile other fits = none.0 fits
+no_row fresh bytes none Literal other fits = none.1 fits
+no_row fresh bytes none Unclosed other fits = none.2 fits
+no_row fresh bytes none Directive other fits = none.3 fits
+no_row fresh bytes none Char other fits = other refl
+no_row fresh bytes none Size other fits = fits
+no_row fresh bytes none Syntax other fits = fits
+no_row fresh bytes none Deep other fits = fits
+no_row fresh bytes none (Constraint number) other fits = fits

@@ -7,7 +7,6 @@ use Rattle.critical_table.specs.declared.refusal.Refusal.TheVariants.{Size, Char
 use Rattle.c_lexer.specs.declared.punct.Punct.{Punct}
 use Rattle.c_lexer.specs.declared.place.Place.{Place}
 use Rattle.c_lexer.specs.declared.token.Body.{Body}
-use Rattle.c_lexer.specs.declared.token.Body.TheVariants as body
 use Rattle.c_lexer.specs.Stream.{Stream}
 use Rattle.c_lexer.specs.Lookup.{lookup}
 use Rattle.c_lexer.specs.Marks.{mark_text, marks}
@@ -18,6 +17,7 @@ use Rattle.c_lexer.specs.Lexing.{start, place_behind, place_after, tokens_of, St
 use Rattle.c_lexer.proofs.Cases.{none_found}
 use Rattle.c_lexer.proofs.TokenLaws.{mark_full, one_token}
 use Rattle.c_lexer.proofs.Leads.{Lead, Quoted, Letter, Digit, Comment, Hash, Space, Other, lead, Admits, admitted}
+use Rattle.c_lexer.proofs.MarkPart.{mark_at_other}
 
 -- two fronts of one length are one
 same_front : (a b x y : List ℕ) → a ++ x ≡ b ++ y → length a ≡ length b → (a ≡ b) × (x ≡ y)
@@ -71,10 +71,9 @@ mark_some mark none = none_found (sym (ap (lookup marks) none) ∙ mark_full mar
 
 no_bytes : (fresh : Bool) → IsEnd fresh []
 unfolding lead
-no_bytes fresh (White text) after stands = subst (λ t. Admits (lead t) (White text)) (sym stands.parts) (admitted fresh (White text) after stands.is)
-no_bytes fresh (Spelled text token) after stands =
-    let mark = subst (λ t. Admits (lead t) (Spelled text token)) (sym stands.parts) (admitted fresh (Spelled text token) after stands.is) in
-    mark_some mark.0 (sym (subst (IsToken text) mark.1 stands.is) ∙ empty_front text after stands.parts)
+no_bytes fresh part after stands =
+    let mark = mark_at_other fresh [] part after refl stands.parts stands.is in
+    mark_some mark.0 (sym mark.1 ∙ empty_front (part_text part) after stands.parts)
 
 -- the bytes are split in one way up to where no part can stand
 one_split : (place : Place) (bytes : List ℕ) (ps qs : List Part) (left rest : List ℕ) → Splits place.fresh bytes ps left → Splits place.fresh bytes qs rest → IsEnd (place_after place ps).fresh left → IsEnd (place_after place qs).fresh rest → (ps ≡ qs) × (left ≡ rest)

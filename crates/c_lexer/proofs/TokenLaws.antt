@@ -1,6 +1,6 @@
 -- A text spells at most one token.
 use Rattle.std.proofs.Common.{◌≡◌, inl, inr, ℕ, ◌<◌, List, [], ◌∷◌, ◌++◌, Bool, true, false, ◌==◌, ◌||◌, ◌&&◌, cond, length, refl, sym, ◌∙◌, ap, subst, arith}
-use Rattle.std.proofs.lemmas.Bool.{and_parts, and_from, leb-true, le-leb, eqb-true, false≢true}
+use Rattle.std.proofs.lemmas.Bool.{and_parts, and_from, and_right, leb-true, le-leb, eqb-true, false≢true}
 use Rattle.std.specs.Prelude.{Result, Ok, Err, IfOk, IfSome, ℤ, Option, Some, None, is_some, slice_index, nat_le}
 use Rattle.std.specs.List.{list_all}
 use Rattle.std.specs.Char.{is_ascii_digit}
@@ -191,10 +191,6 @@ no_word : (text : List ℕ) (o : Option Word) → word_of text ≡ o → ((word 
 no_word text None at none = refl
 no_word text (Some word) at none = absurd (none word (word_sound text word at))
 
-pub and_last : (a b : Bool) → b ≡ false → (a && b) ≡ false
-and_last true b h = h
-and_last false b h = refl
-
 not_same : (quote : ℕ) → (quote ≡ 0 → ⊥) → (0 == quote) ≡ false
 not_same quote some = neq-eqb 0 quote (λ (e : 0 ≡ quote). some (sym e))
 
@@ -202,11 +198,11 @@ name_unquoted : (quote : ℕ) (text : List ℕ) → is_word_byte quote ≡ false
 unfolding quoted
 name_unquoted quote [] mark zero letter all some = absurd (false≢true letter)
 name_unquoted quote (a ∷ []) mark zero letter all some =
-    rw (no_quote quote a (a == quote) mark (and_parts (is_word_byte a) true all).0 refl) (and_last (a == 76) (0 == quote) (not_same quote some))
+    rw (no_quote quote a (a == quote) mark (and_parts (is_word_byte a) true all).0 refl) (and_right (a == 76) (0 == quote) (not_same quote some))
 name_unquoted quote (a ∷ b ∷ text) mark zero letter all some =
     let first = and_parts (is_word_byte a) (list_all is_word_byte (b ∷ text)) all in
     let second = and_parts (is_word_byte b) (list_all is_word_byte text) first.1 in
-    rw (no_quote quote a (a == quote) mark first.0 refl) (and_last (a == 76) (b == quote) (no_quote quote b (b == quote) mark second.0 refl))
+    rw (no_quote quote a (a == quote) mark first.0 refl) (and_right (a == 76) (b == quote) (no_quote quote b (b == quote) mark second.0 refl))
 
 name_tag : (text : List ℕ) → IsName text → tag text ≡ 1
 unfolding tag
