@@ -12,7 +12,7 @@ use Rattle.c_lexer.specs.Rows.{OpenComment, Fits, IsFirstRow}
 use Rattle.c_lexer.specs.Lexing.{Stands}
 use Rattle.c_lexer.proofs.CommentLaws.{close_full}
 use Rattle.c_lexer.proofs.Runs.{run_least, run_whole, line_ends}
-use Rattle.c_lexer.proofs.Leads.{lead, Comment, quoted_lead, comment_lead, Admits, admitted_at, no_fit, no_row}
+use Rattle.c_lexer.proofs.Leads.{lead, Comment, unended_lead, comment_lead, Admits, admitted_at, no_fit, no_row}
 
 line_front : (text rest : List ℕ) (c : IsLineComment text) → text ++ rest ≡ codes "//" ++ (c.body ++ rest)
 line_front text rest c = ap (λ t. t ++ rest) c.parts
@@ -54,8 +54,8 @@ no_longer fresh text rest part after some at h is line block =
 
 no_unclosed : (fresh : Bool) (bytes : List ℕ) → lead bytes ≡ Comment → (OpenComment bytes → ⊥) → Fits fresh bytes Unclosed → ⊥
 no_unclosed fresh bytes at ends (inl unended) = ends unended
-no_unclosed fresh bytes at ends (inr (inl single)) = (let quoted = quoted_lead single.wide 39 bytes single.rest (inr refl) single.parts in cc)
-no_unclosed fresh bytes at ends (inr (inr double)) = (let quoted = quoted_lead double.wide 34 bytes double.rest (inl refl) double.parts in cc)
+no_unclosed fresh bytes at ends (inr (inl single)) = (let quoted = unended_lead 39 bytes (inr refl) single in cc)
+no_unclosed fresh bytes at ends (inr (inr double)) = (let quoted = unended_lead 34 bytes (inl refl) double in cc)
 
 -- where a comment that ends begins, Char is the first row
 only_char : (fresh : Bool) (bytes : List ℕ) → lead bytes ≡ Comment → (OpenComment bytes → ⊥) → IsFirstRow fresh bytes Char

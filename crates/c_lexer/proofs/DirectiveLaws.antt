@@ -16,7 +16,7 @@ use Rattle.c_lexer.specs.Directives.{headers, is_header, IsInclude, IsDefine, Is
 use Rattle.c_lexer.specs.ReadComment.{past_quote}
 use Rattle.c_lexer.specs.ReadDirective.{stripped, on, unblank, all_blank, begins_blank, ends_include, is_include, ends_define, names_extension, is_define, ends_marker, is_marker}
 use Rattle.c_lexer.proofs.Cases.{chosen, either, neq-eqb, none_found, not_false}
-use Rattle.c_lexer.proofs.Runs.{run_all, run_whole}
+use Rattle.c_lexer.proofs.Runs.{front_taken, front_dropped, run_all, run_whole}
 use Rattle.c_lexer.proofs.CommentLaws.{quote_sound, quote_full}
 
 pub strip_sound : (word text after : List ℕ) → stripped word text ≡ Some after → text ≡ word ++ after
@@ -68,7 +68,7 @@ blank_run : (blanks rest : List ℕ) → list_all is_blank blanks ≡ true → p
 blank_run blanks rest all ends = run_whole (is_in class.Blank) blanks rest all ends
 
 pub unblank_full : (blanks rest : List ℕ) → list_all is_blank blanks ≡ true → prefix_len (is_in class.Blank) rest ≡ 0 → unblank (blanks ++ rest) ≡ rest
-unblank_full blanks rest all ends = ap (λ n. drop n (blanks ++ rest)) (blank_run blanks rest all ends) ∙ drop-append_seam blanks rest
+unblank_full blanks rest all ends = front_dropped _ blanks rest (blank_run blanks rest all ends)
 
 some_true : (n m : ℕ) → n ≡ m → 0 < m → not (n == 0) ≡ true
 some_true n m is some = ap not (neq-eqb n 0 (λ (e : n ≡ 0). omega (arith, e, is, some)))
@@ -112,8 +112,8 @@ include_full text i =
     let solid = header_solid i.header i.last i.known in
     let start : unblank (i.before ++ (i.header ++ i.last)) ≡ i.header ++ i.last = unblank_full i.before (i.header ++ i.last) i.blanks.0 solid.1 in
     let run : prefix_len (is_in class.Solid) (i.header ++ i.last) ≡ length i.header = run_whole (is_in class.Solid) i.header i.last solid.0 (solid_ends i.last i.blanks.1) in
-    let front : take (prefix_len (is_in class.Solid) (i.header ++ i.last)) (i.header ++ i.last) ≡ i.header = ap (λ n. take n (i.header ++ i.last)) run ∙ take-append_seam i.header i.last in
-    let back : drop (prefix_len (is_in class.Solid) (i.header ++ i.last)) (i.header ++ i.last) ≡ i.last = ap (λ n. drop n (i.header ++ i.last)) run ∙ drop-append_seam i.header i.last in
+    let front : take (prefix_len (is_in class.Solid) (i.header ++ i.last)) (i.header ++ i.last) ≡ i.header = front_taken _ i.header i.last run in
+    let back : drop (prefix_len (is_in class.Solid) (i.header ++ i.last)) (i.header ++ i.last) ≡ i.last = front_dropped _ i.header i.last run in
     ap (λ t. on (stripped (codes "include") t) (λ after. ends_include (unblank after))) i.parts
     ∙ (ap (λ o. on o (λ after. ends_include (unblank after))) (strip_full (codes "include") (i.before ++ (i.header ++ i.last)))
     ∙ (ap ends_include start ∙ and_from _ _ (ap is_header front ∙ i.known) (ap all_blank back ∙ i.blanks.1)))
@@ -191,7 +191,7 @@ marker_full text m =
     let run : prefix_len (is_in class.Decimal) (m.number ++ (m.between ++ (34 ∷ (m.file ++ (34 ∷ m.last))))) ≡ length m.number =
     run_whole (is_in class.Decimal) m.number (m.between ++ (34 ∷ (m.file ++ (34 ∷ m.last)))) m.digits (decimal_ends m.between (m.file ++ (34 ∷ m.last)) m.blank) in
     let back : drop (prefix_len (is_in class.Decimal) (m.number ++ (m.between ++ (34 ∷ (m.file ++ (34 ∷ m.last)))))) (m.number ++ (m.between ++ (34 ∷ (m.file ++ (34 ∷ m.last))))) ≡ m.between ++ (34 ∷ (m.file ++ (34 ∷ m.last))) =
-    ap (λ k. drop k (m.number ++ (m.between ++ (34 ∷ (m.file ++ (34 ∷ m.last)))))) run ∙ drop-append_seam m.number (m.between ++ (34 ∷ (m.file ++ (34 ∷ m.last)))) in
+    front_dropped _ m.number (m.between ++ (34 ∷ (m.file ++ (34 ∷ m.last)))) run in
     let closing : ends_marker (m.file ++ (34 ∷ m.last)) ≡ true = ap (λ o. on o (list_all (is_in class.Spaced))) (quote_full 34 false m.file m.last (λ (e : 34 ≡ 10). omega (arith, e)) m.name) ∙ m.numbers in
     subst (λ t. (not (prefix_len (is_in class.Decimal) t == 0) && on (stripped (codes "\"") (unblank (drop (prefix_len (is_in class.Decimal) t) t))) ends_marker) ≡ true) (sym m.parts)
     (and_from _ _ (some_true _ (length m.number) run m.some)

@@ -3,7 +3,6 @@ use Rattle.std.proofs.Common.{◌≡◌, inl, inr, ℕ, ◌^◌, ◌<◌, ◌≤
 use Rattle.std.proofs.lemmas.Bool.{eqb-true, eqb-false, or_parts, and_parts, cases_lt, cond-true, leb-true, leb-false, le-leb, lt-leb, false≢true}
 use Rattle.std.proofs.lemmas.List.{take-append-drop, length-take-le}
 use Rattle.std.proofs.lemmas.List.Sums.{prefix_len-le-length}
-use Rattle.std.proofs.Math.Seq.{take-append_seam, drop-append_seam}
 use Rattle.std.specs.Prelude.{Option, Some, None, nat_le}
 use Rattle.std.specs.Option.{option_map}
 use Rattle.std.specs.List.{prefix_len, list_all, AllByRecursion}
@@ -16,7 +15,7 @@ use Rattle.c_lexer.specs.ReadCharacters.{within, numbered, escape_at, is_plain, 
 use Rattle.c_lexer.proofs.Cases.{chosen, neq-eqb, none_found, not_false}
 use Rattle.c_lexer.proofs.Values.{small_enough}
 use Rattle.c_lexer.proofs.NumberLaws.{value_sound}
-use Rattle.c_lexer.proofs.Runs.{run_part, run_ends, run_whole, run_least}
+use Rattle.c_lexer.proofs.Runs.{front_taken, front_dropped, run_part, run_ends, run_whole, run_least}
 
 -- what so many digits were read as
 pub record Digits (wide : Bool) (radix : ℕ) (count : ℕ) (bytes : List ℕ) (found : ℕ × List ℕ) : Type 0 where
@@ -52,8 +51,8 @@ greatest_small false = lit< tt
 pub numbered_full : (wide : Bool) (radix count : ℕ) (digits after : List ℕ) (value : ℕ) → count ≡ length digits → 0 < length digits → value ≡ digits_value radix digits → value ≤ greatest wide → numbered wide radix count (digits ++ after) ≡ Some (value, after)
 unfolding numbered
 numbered_full wide radix count digits after value is some same fits =
-    let front : take count (digits ++ after) ≡ digits = ap (λ n. take n (digits ++ after)) is ∙ take-append_seam digits after in
-    let back : drop count (digits ++ after) ≡ after = ap (λ n. drop n (digits ++ after)) is ∙ drop-append_seam digits after in
+    let front : take count (digits ++ after) ≡ digits = front_taken count digits after is in
+    let back : drop count (digits ++ after) ≡ after = front_dropped count digits after is in
     let no : (count == 0) ≡ false = neq-eqb count 0 (λ (e : count ≡ 0). omega (arith, e, is, some)) in
     let small : digits_value radix digits < 2 ^ 64 = (let g = greatest_small wide in omega (arith, g, same, fits)) in
     let least : nat_le (digits_value radix digits) (greatest wide) ≡ true = le-leb _ _ (subst (λ n. n ≤ greatest wide) same fits) in

@@ -19,11 +19,11 @@ use Rattle.c_lexer.specs.Characters.{opening, item_text}
 use Rattle.c_lexer.specs.Comments.{IsBlockComment, IsLineComment}
 use Rattle.c_lexer.specs.Directives.{IsDirective}
 use Rattle.c_lexer.specs.Parts.{Part, White, Spelled, part_text, IsPart, IsWhite}
-use Rattle.c_lexer.specs.Rows.{begins_number, Fits, IsFirstRow}
+use Rattle.c_lexer.specs.Rows.{begins_number, NoCharacter, NoLiteral, NeverEnds, Fits, IsFirstRow}
 use Rattle.c_lexer.proofs.Cases.{either, other_byte, not_true, not_false}
 use Rattle.c_lexer.proofs.Tables.{lookup_true, listed_true}
 use Rattle.c_lexer.proofs.WordLaws.{word_full}
-use Rattle.c_lexer.proofs.TokenLaws.{mark_full, number_first}
+use Rattle.c_lexer.proofs.TokenLaws.{letter_no_digit, mark_full, number_first}
 
 -- a quote, or L and a quote; a letter; a digit, or a point and a digit; what begins a comment; a #; one of the six bytes; none of these
 pub data Lead : Type 0 where
@@ -99,7 +99,7 @@ pub longer_lead : (a b : ℕ) (bytes : List ℕ) → is_letter a ≡ true → is
 longer_lead a b bytes letter word = letter_lead (a ∷ b ∷ bytes) letter (and_right (a == 76) (is_quote b) (no_quote_in is_word_byte b refl refl word))
 
 digit_no_letter : (byte : ℕ) → is_ascii_digit byte ≡ true → is_letter byte ≡ false
-digit_no_letter byte digit = not_true (is_letter byte) (λ letter. grind (arith, letter, digit))
+digit_no_letter byte digit = not_true (is_letter byte) (λ letter. false≢true (sym (letter_no_digit byte true letter digit)))
 
 digit_lead : (bytes : List ℕ) → is_ascii_digit (slice_index bytes 0) ≡ true → lead bytes ≡ Digit
 unfolding lead
@@ -139,13 +139,16 @@ single_admits : (t : Bool) (byte : ℕ) (token : Body) → is_word_byte byte ≡
 single_admits true byte token is = inl refl
 single_admits false byte token is = and_from _ _ is refl
 
+admits_there : {at l : Lead} (part : Part) → at ≡ l → Admits l part → Admits at part
+admits_there part is = subst (λ l. Admits l part) (sym is)
+
 run_admitted : (text after : List ℕ) (token : Body) → is_letter (slice_index text 0) ≡ true → list_all is_word_byte text ≡ true → Admits (lead (text ++ after)) (Spelled text token)
 run_admitted [] after token letter each = absurd (false≢true letter)
 run_admitted (a ∷ []) after token letter each =
-    subst (λ l. Admits l (Spelled (a ∷ []) token)) (sym (run_lead (a ∷ after) letter)) (single_admits (a == 76 && is_quote (slice_index after 0)) a token (and_parts _ _ each).0)
+    admits_there (Spelled (a ∷ []) token) (run_lead (a ∷ after) letter) (single_admits (a == 76 && is_quote (slice_index after 0)) a token (and_parts _ _ each).0)
 run_admitted (a ∷ b ∷ text) after token letter each =
     let second = and_parts (is_word_byte b) (list_all is_word_byte text) (and_parts (is_word_byte a) (list_all is_word_byte (b ∷ text)) each).1 in
-    subst (λ l. Admits l (Spelled (a ∷ b ∷ text) token)) (sym (longer_lead a b (text ++ after) letter second.0)) each
+    admits_there (Spelled (a ∷ b ∷ text) token) (longer_lead a b (text ++ after) letter second.0) each
 
 abbrev is_run : List ℕ → Bool
 is_run text = is_letter (slice_index text 0) && list_all is_word_byte text
@@ -165,7 +168,7 @@ digit_front (a ∷ text) after digit = digit_lead (a ∷ (text ++ after)) digit
 
 number_admitted : (text after : List ℕ) (number : Number) → IsNumber text number → Admits (lead (text ++ after)) (Spelled text (body.Number number))
 number_admitted text after number is =
-    subst (λ l. Admits l (Spelled text (body.Number number))) (sym (digit_front text after (number_first is.base is.before is.after text number is.parts is.prefix is.constant))) (inr (number, refl))
+    admits_there (Spelled text (body.Number number)) (digit_front text after (number_first is.base is.before is.after text number is.parts is.prefix is.constant)) (inr (number, refl))
 
 quoted_front : (wide : Bool) (quote : ℕ) (text after rest : List ℕ) → IsQuote quote → text ≡ opening wide ++ (quote ∷ rest) → lead (text ++ after) ≡ Quoted
 quoted_front wide quote text after rest is parts =
@@ -213,7 +216,7 @@ mark_front : (text after : List ℕ) (mark : Punct) → may_be_mark text ≡ tru
 unfolding lead
 mark_front [] after mark may = absurd (false≢true may)
 mark_front (a ∷ []) after mark may =
-    subst (λ l. Admits l (Spelled (a ∷ []) (body.Mark mark))) (sym (byte_lead (a ∷ after) (not_false _ may))) (byte_admits _ _ _ a mark)
+    admits_there (Spelled (a ∷ []) (body.Mark mark)) (byte_lead (a ∷ after) (not_false _ may)) (byte_admits _ _ _ a mark)
 mark_front (a ∷ b ∷ text) after mark may = other_admits (lead (a ∷ b ∷ (text ++ after))) (a ∷ b ∷ text) mark may
 
 pub comment_lead : {second : ℕ} {rest : List ℕ} (bytes : List ℕ) → bytes ≡ 47 ∷ second ∷ rest → (second == 47 || second == 42) ≡ true → lead bytes ≡ Comment
@@ -226,13 +229,11 @@ hash_lead bytes parts = ap lead parts
 
 white_admitted : (fresh : Bool) (text after : List ℕ) → IsWhite fresh text after → Admits (lead (text ++ after)) (White text)
 white_admitted fresh text after (inl white) =
-    subst (λ l. Admits l (White text)) (sym (ap (λ t. lead (t ++ after)) white.1 ∙ white_lead white.0 after white.2)) (ap length white.1)
-white_admitted fresh text after (inr (inl line)) = subst (λ l. Admits l (White text)) (sym (comment_lead (text ++ after) (ap (λ t. t ++ after) line.parts) refl)) (inl line)
+    admits_there (White text) (ap (λ t. lead (t ++ after)) white.1 ∙ white_lead white.0 after white.2) (ap length white.1)
+white_admitted fresh text after (inr (inl line)) = admits_there (White text) (comment_lead (text ++ after) (ap (λ t. t ++ after) line.parts) refl) (inl line)
 white_admitted fresh text after (inr (inr (inl block))) =
-    subst (λ l. Admits l (White text)) (sym (comment_lead (text ++ after) (ap (λ t. t ++ after) block.parts) refl)) (inr block)
-white_admitted fresh text after (inr (inr (inr directive))) =
-    let is = directive.1 in
-    subst (λ l. Admits l (White text)) (sym (hash_lead (text ++ after) (ap (λ t. t ++ after) is.parts))) is
+    admits_there (White text) (comment_lead (text ++ after) (ap (λ t. t ++ after) block.parts) refl) (inr block)
+white_admitted fresh text after (inr (inr (inr directive))) = admits_there (White text) (hash_lead (text ++ after) (ap (λ t. t ++ after) directive.1.parts)) directive.1
 
 pub admitted : (fresh : Bool) (part : Part) (after : List ℕ) → IsPart fresh part after → Admits (lead (part_text part ++ after)) part
 admitted fresh (White text) after is = white_admitted fresh text after is
@@ -240,9 +241,9 @@ admitted fresh (Spelled text (body.Word word)) after is = word_admitted text aft
 admitted fresh (Spelled text (body.Name name)) after is = run_admitted text after (body.Name name) is.1.first is.1.each
 admitted fresh (Spelled text (body.Number number)) after is = number_admitted text after number is
 admitted fresh (Spelled text (body.Character value wide)) after is =
-    subst (λ l. Admits l (Spelled text (body.Character value wide))) (sym (quoted_front wide 39 text after (item_text is.item ++ (39 ∷ [])) (inr refl) is.parts)) (inr tt)
+    admits_there (Spelled text (body.Character value wide)) (quoted_front wide 39 text after (item_text is.item ++ (39 ∷ [])) (inr refl) is.parts) (inr tt)
 admitted fresh (Spelled text (body.Literal units wide)) after is =
-    subst (λ l. Admits l (Spelled text (body.Literal units wide))) (sym (quoted_front wide 34 text after (flat_map item_text is.items ++ (34 ∷ [])) (inl refl) is.parts)) (inr tt)
+    admits_there (Spelled text (body.Literal units wide)) (quoted_front wide 34 text after (flat_map item_text is.items ++ (34 ∷ [])) (inl refl) is.parts) (inr tt)
 admitted fresh (Spelled text (body.Mark mark)) after is = mark_front text after mark (ap may_be_mark is ∙ mark_may mark)
 
 pub admitted_at : (fresh : Bool) (bytes : List ℕ) (l : Lead) (other : Part) (after : List ℕ) → lead bytes ≡ l → bytes ≡ part_text other ++ after → IsPart fresh other after → Admits l other
@@ -263,6 +264,15 @@ outside_first : (text : List ℕ) → is_outside text ≡ true → is_other_lett
 unfolding is_outside
 outside_first text outside = listed_true (λ t. is_other_letter (slice_index t 0)) outside_words text refl outside
 
+pub character_lead : (bytes : List ℕ) → NoCharacter bytes → lead bytes ≡ Quoted
+character_lead bytes fault = quoted_lead fault.wide 39 bytes (fault.inner ++ (39 ∷ fault.after)) (inr refl) fault.parts
+
+pub literal_lead : (bytes : List ℕ) → NoLiteral bytes → lead bytes ≡ Quoted
+literal_lead bytes fault = quoted_lead fault.wide 34 bytes (fault.inner ++ (34 ∷ fault.after)) (inl refl) fault.parts
+
+pub unended_lead : (quote : ℕ) (bytes : List ℕ) → IsQuote quote → NeverEnds quote bytes → lead bytes ≡ Quoted
+unended_lead quote bytes is fault = quoted_lead fault.wide quote bytes fault.rest is fault.parts
+
 -- where each row can fit
 abbrev pub may_fit : Refusal → Lead → Bool
 may_fit Profile Letter = true
@@ -277,11 +287,11 @@ may_fit why at = false
 fits_there : (fresh : Bool) (bytes : List ℕ) (why : Refusal) → Fits fresh bytes why → may_fit why (lead bytes) ≡ true
 fits_there fresh bytes Profile fits = ap (may_fit Profile) (taken_lead (prefix_len is_word_byte bytes) bytes (outside_first (take (prefix_len is_word_byte bytes) bytes) fits))
 fits_there fresh bytes Literal (inl number) = ap (may_fit Literal) (number_lead bytes number.0)
-fits_there fresh bytes Literal (inr (inl character)) = ap (may_fit Literal) (quoted_lead character.wide 39 bytes (character.inner ++ (39 ∷ character.after)) (inr refl) character.parts)
-fits_there fresh bytes Literal (inr (inr literal)) = ap (may_fit Literal) (quoted_lead literal.wide 34 bytes (literal.inner ++ (34 ∷ literal.after)) (inl refl) literal.parts)
+fits_there fresh bytes Literal (inr (inl character)) = ap (may_fit Literal) (character_lead bytes character)
+fits_there fresh bytes Literal (inr (inr literal)) = ap (may_fit Literal) (literal_lead bytes literal)
 fits_there fresh bytes Unclosed (inl comment) = ap (may_fit Unclosed) (comment_lead bytes comment.parts refl)
-fits_there fresh bytes Unclosed (inr (inl single)) = ap (may_fit Unclosed) (quoted_lead single.wide 39 bytes single.rest (inr refl) single.parts)
-fits_there fresh bytes Unclosed (inr (inr double)) = ap (may_fit Unclosed) (quoted_lead double.wide 34 bytes double.rest (inl refl) double.parts)
+fits_there fresh bytes Unclosed (inr (inl single)) = ap (may_fit Unclosed) (unended_lead 39 bytes (inr refl) single)
+fits_there fresh bytes Unclosed (inr (inr double)) = ap (may_fit Unclosed) (unended_lead 34 bytes (inl refl) double)
 fits_there fresh bytes Directive fits = ap (may_fit Directive) (hash_lead bytes fits.1.parts)
 fits_there fresh bytes Char fits = refl
 fits_there fresh bytes Size fits = absurd fits
@@ -292,6 +302,13 @@ fits_there fresh bytes (Constraint number) fits = absurd fits
 -- a row fits nowhere else
 pub no_fit : {at : Lead} (fresh : Bool) (bytes : List ℕ) (why : Refusal) → lead bytes ≡ at → may_fit why at ≡ false → Fits fresh bytes why → ⊥
 no_fit fresh bytes why at never fits = false≢true (sym never ∙ (ap (may_fit why) (sym at) ∙ fits_there fresh bytes why fits))
+
+-- where no word, number, comment or quotation begins, and no directive, Char is the first row
+pub char_first : {at : Lead} (fresh : Bool) (bytes : List ℕ) → lead bytes ≡ at → (may_fit Profile at || may_fit Literal at || may_fit Unclosed at) ≡ false → (Fits fresh bytes Directive → ⊥) → IsFirstRow fresh bytes Char
+char_first {at = l} fresh bytes at none directive =
+    let most = or_parts (may_fit Profile l || may_fit Literal l) (may_fit Unclosed l) none in
+    let two = or_parts (may_fit Profile l) (may_fit Literal l) most.0 in
+    (no_fit fresh bytes Profile at two.0, no_fit fresh bytes Literal at two.1, no_fit fresh bytes Unclosed at most.1, directive)
 
 -- no other row fits where Char is the first that does
 pub no_row : (fresh : Bool) (bytes : List ℕ) → IsFirstRow fresh bytes Char → (why : Refusal) → why ≢ Char → Fits fresh bytes why → ⊥

@@ -1,7 +1,6 @@
 -- A white byte stands alone; a line that begins with `#` stands where it is a directive, and is refused where it is none.
 use Rattle.std.proofs.Common.{◌≡◌, inl, inr, ℕ, List, [], ◌∷◌, ◌++◌, Bool, true, false, ◌==◌, length, take, refl, sym, ◌∙◌, ap, subst, arith}
 use Rattle.std.proofs.lemmas.Bool.{and_from}
-use Rattle.std.proofs.Math.Seq.{take-append_seam}
 use Rattle.std.specs.Prelude.{not}
 use Rattle.std.specs.List.{list_all, prefix_len}
 use Rattle.std.specs.Char.{is_ascii_digit}
@@ -12,12 +11,12 @@ use Rattle.c_lexer.specs.Classes.{is_in}
 use Rattle.c_lexer.specs.Comments.{IsInner}
 use Rattle.c_lexer.specs.Directives.{headers, is_header, IsInclude, IsDefine, IsMarker, IsShape, IsDirective}
 use Rattle.c_lexer.specs.Parts.{Part, White, Spelled, part_text, EndsLine}
-use Rattle.c_lexer.specs.Rows.{Fits, IsFirstRow}
+use Rattle.c_lexer.specs.Rows.{IsFirstRow}
 use Rattle.c_lexer.specs.Lexing.{Stands}
 use Rattle.c_lexer.proofs.Cases.{neq-eqb, other_byte}
-use Rattle.c_lexer.proofs.Runs.{all_weaker, all_joined, run_whole, run_least, line_ends}
+use Rattle.c_lexer.proofs.Runs.{all_weaker, all_joined, front_taken, run_whole, run_least, line_ends}
 use Rattle.c_lexer.proofs.DirectiveLaws.{among}
-use Rattle.c_lexer.proofs.Leads.{Hash, Space, lead, white_lead, hash_lead, Admits, admitted_at, no_fit, no_row}
+use Rattle.c_lexer.proofs.Leads.{Hash, Space, white_lead, hash_lead, Admits, admitted_at, no_fit, char_first, no_row}
 
 length_at_space : (part : Part) → Admits Space part → length (part_text part) ≡ 1
 length_at_space (White text) one = one
@@ -30,12 +29,7 @@ white_stands fresh byte rest is =
       parts = refl;
       is = inl (byte, refl, is);
       longest = λ other after parts part. omega (arith, length_at_space other (admitted_at fresh (byte ∷ rest) Space other after at parts part));
-      no_row = no_row fresh (byte ∷ rest) (
-        no_fit fresh (byte ∷ rest) Profile at refl,
-        no_fit fresh (byte ∷ rest) Literal at refl,
-        no_fit fresh (byte ∷ rest) Unclosed at refl,
-        no_fit fresh (byte ∷ rest) Directive at refl,
-      );
+      no_row = no_row fresh (byte ∷ rest) (char_first fresh (byte ∷ rest) at refl (no_fit fresh (byte ∷ rest) Directive at refl));
     }
 
 -- bytes of a class that has no line feed
@@ -86,26 +80,25 @@ line_length : (body rest : List ℕ) → list_all (is_in Line) body ≡ true →
 line_length body rest line ends = run_whole (is_in Line) (35 ∷ body) rest line (line_ends rest ends)
 
 line_front : (body rest : List ℕ) → list_all (is_in Line) body ≡ true → EndsLine rest → take (prefix_len (is_in Line) ((35 ∷ body) ++ rest)) ((35 ∷ body) ++ rest) ≡ 35 ∷ body
-line_front body rest line ends = ap (λ n. take n ((35 ∷ body) ++ rest)) (line_length body rest line ends) ∙ take-append_seam (35 ∷ body) rest
-
--- where a line begins with `#`, only Directive can fit
-no_early_row : (bytes : List ℕ) → lead bytes ≡ Hash → (Fits true bytes Profile → ⊥) × (Fits true bytes Literal → ⊥) × (Fits true bytes Unclosed → ⊥)
-no_early_row bytes at = (no_fit true bytes Profile at refl, no_fit true bytes Literal at refl, no_fit true bytes Unclosed at refl)
+line_front body rest line ends = front_taken _ (35 ∷ body) rest (line_length body rest line ends)
 
 pub directive_stands : (body rest : List ℕ) → list_all (is_in Line) body ≡ true → EndsLine rest → IsDirective (35 ∷ body) → Stands true ((35 ∷ body) ++ rest) (White (35 ∷ body)) rest
 directive_stands body rest line ends is =
     let at = hash_lead ((35 ∷ body) ++ rest) refl in
-    let early = no_early_row ((35 ∷ body) ++ rest) at in
     record {
       parts = refl;
       is = inr (inr (inr (refl, is, ends)));
       longest = λ other after parts part.
           let all = line_at_hash other (admitted_at true ((35 ∷ body) ++ rest) Hash other after at parts part) in
           omega (arith, run_least (is_in Line) (part_text other) after all, ap (prefix_len (is_in Line)) parts, line_length body rest line ends);
-      no_row = no_row true ((35 ∷ body) ++ rest) (early.0, early.1, early.2, λ fits. fits.1.none (subst IsDirective (sym (line_front body rest line ends)) is));
+      no_row = no_row true ((35 ∷ body) ++ rest) (char_first true ((35 ∷ body) ++ rest) at refl (λ fits. fits.1.none (subst IsDirective (sym (line_front body rest line ends)) is)));
     }
 
 pub directive_refused : (body rest : List ℕ) → list_all (is_in Line) body ≡ true → EndsLine rest → (IsDirective (35 ∷ body) → ⊥) → IsFirstRow true ((35 ∷ body) ++ rest) Directive
 directive_refused body rest line ends none =
-    let early = no_early_row ((35 ∷ body) ++ rest) (hash_lead ((35 ∷ body) ++ rest) refl) in
-    ((refl, record { rest = body ++ rest; parts = refl; none = λ d. none (subst IsDirective (line_front body rest line ends) d) }), early.0, early.1, early.2)
+    let at = hash_lead ((35 ∷ body) ++ rest) refl in (
+      (refl, record { rest = body ++ rest; parts = refl; none = λ d. none (subst IsDirective (line_front body rest line ends) d) }),
+      no_fit true ((35 ∷ body) ++ rest) Profile at refl,
+      no_fit true ((35 ∷ body) ++ rest) Literal at refl,
+      no_fit true ((35 ∷ body) ++ rest) Unclosed at refl,
+    )

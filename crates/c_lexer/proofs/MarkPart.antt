@@ -2,14 +2,14 @@
 use Rattle.std.proofs.Common.{◌≡◌, ◌⊎◌, inl, inr, ℕ, ◌≤◌, List, ◌++◌, Bool, true, false, length, refl, sym, ◌∙◌, ap, subst, arith}
 use Rattle.std.proofs.lemmas.Bool.{false≢true}
 use Rattle.std.specs.Prelude.{◌≢◌}
-use Rattle.critical_table.specs.declared.refusal.Refusal.TheVariants.{Char, Unclosed, Literal, Directive, Profile}
+use Rattle.critical_table.specs.declared.refusal.Refusal.TheVariants.{Char, Directive}
 use Rattle.c_lexer.specs.declared.punct.Punct.{Punct}
 use Rattle.c_lexer.specs.declared.token.Body.TheVariants as body
 use Rattle.c_lexer.specs.Marks.{mark_text}
 use Rattle.c_lexer.specs.Parts.{Part, White, Spelled, part_text, IsToken, IsWhite, IsPart}
 use Rattle.c_lexer.specs.Rows.{IsFirstRow}
 use Rattle.c_lexer.specs.Lexing.{Stands}
-use Rattle.c_lexer.proofs.Leads.{Hash, Space, Other, lead, white_lead, comment_lead, admitted_at, no_fit, no_row}
+use Rattle.c_lexer.proofs.Leads.{Hash, Space, Other, lead, white_lead, comment_lead, admitted_at, no_fit, char_first, no_row}
 
 -- what stands where nothing else begins is a mark
 pub mark_at_other : (fresh : Bool) (bytes : List ℕ) (part : Part) (after : List ℕ) → lead bytes ≡ Other → bytes ≡ part_text part ++ after → IsPart fresh part after → (mark : Punct) × (part_text part ≡ mark_text mark)
@@ -17,9 +17,6 @@ mark_at_other fresh bytes (White text) after at parts is = absurd (admitted_at f
 mark_at_other fresh bytes (Spelled text token) after at parts is =
     let mark = admitted_at fresh bytes Other (Spelled text token) after at parts is in
     (mark.0, subst (IsToken text) mark.1 is)
-
-only_char : (fresh : Bool) (bytes : List ℕ) → lead bytes ≡ Other → IsFirstRow fresh bytes Char
-only_char fresh bytes at = (no_fit fresh bytes Profile at refl, no_fit fresh bytes Literal at refl, no_fit fresh bytes Unclosed at refl, no_fit fresh bytes Directive at refl)
 
 pub mark_stands : (fresh : Bool) (mark : Punct) (rest : List ℕ) → lead (mark_text mark ++ rest) ≡ Other
     → ((other : Punct) (after : List ℕ) → mark_text mark ++ rest ≡ mark_text other ++ after → length (mark_text other) ≤ length (mark_text mark))
@@ -30,7 +27,7 @@ mark_stands fresh mark rest at longest = record {
   longest = λ other after parts is.
       let found = mark_at_other fresh (mark_text mark ++ rest) other after at parts is in
       omega (arith, ap length found.1, longest found.0 after (parts ∙ ap (λ t. t ++ after) found.1));
-  no_row = no_row fresh (mark_text mark ++ rest) (only_char fresh (mark_text mark ++ rest) at);
+  no_row = no_row fresh (mark_text mark ++ rest) (char_first fresh (mark_text mark ++ rest) at refl (no_fit fresh (mark_text mark ++ rest) Directive at refl));
 }
 
 -- nothing begins with this byte
@@ -61,8 +58,5 @@ alien_stands_not fresh bytes alien part after stands =
 
 pub alien_refused : (fresh : Bool) (bytes : List ℕ) → IsAlien fresh bytes → IsFirstRow fresh bytes Char
 alien_refused fresh bytes alien =
-    elim alien.at [
-      | inl other ↦ only_char fresh bytes other
-      | inr hash ↦
-          (no_fit fresh bytes Profile hash.0 refl, no_fit fresh bytes Literal hash.0 refl, no_fit fresh bytes Unclosed hash.0 refl, λ fits. false≢true (sym hash.1 ∙ fits.0))
-    ]
+    elim alien.at
+    [ inl other ↦ char_first fresh bytes other refl (no_fit fresh bytes Directive other refl) | inr hash ↦ char_first fresh bytes hash.0 refl (λ fits. false≢true (sym hash.1 ∙ fits.0)) ]

@@ -1,7 +1,6 @@
 -- What begins as a number stands where it spells one, and is refused where it spells none.
 use Rattle.std.proofs.Common.{◌≡◌, inl, inr, ℕ, ◌≤◌, List, [], ◌∷◌, ◌++◌, Bool, true, false, ◌==◌, ◌&&◌, length, take, refl, sym, ◌∙◌, ap, subst, arith}
 use Rattle.std.proofs.lemmas.Bool.{and_parts, or_right, eqb-true, false≢true}
-use Rattle.std.proofs.Math.Seq.{take-append_seam}
 use Rattle.std.specs.Prelude.{slice_index}
 use Rattle.std.specs.List.{list_all}
 use Rattle.std.specs.Char.{is_ascii_digit}
@@ -18,10 +17,10 @@ use Rattle.c_lexer.specs.Parts.{Part, White, Spelled, part_text, IsPart, IsToken
 use Rattle.c_lexer.specs.Rows.{is_exponent, number_len, begins_number, Fits, IsFirstRow}
 use Rattle.c_lexer.specs.Lexing.{Stands}
 use Rattle.c_lexer.proofs.Cases.{either}
-use Rattle.c_lexer.proofs.Runs.{all_weaker, all_joined}
+use Rattle.c_lexer.proofs.Runs.{all_weaker, all_joined, front_taken}
 use Rattle.c_lexer.proofs.Tables.{lookup_true}
 use Rattle.c_lexer.proofs.TokenLaws.{octal_digit, digit_token}
-use Rattle.c_lexer.proofs.Leads.{Digit, Admits, quoted_lead, number_lead, admitted_at, no_fit, no_row}
+use Rattle.c_lexer.proofs.Leads.{Digit, Admits, character_lead, literal_lead, number_lead, admitted_at, no_fit, no_row}
 
 -- the text is all that goes on as a number
 pub record IsNumberRun (text rest : List ℕ) : Type 0 where
@@ -82,7 +81,7 @@ longest_number bytes (Spelled text token) after fresh begins (inr number) parts 
     subst (λ b. length text ≤ number_len false b) (sym parts) (number_least false text after all)
 
 run_taken : (text rest : List ℕ) → IsNumberRun text rest → take (number_len false (text ++ rest)) (text ++ rest) ≡ text
-run_taken text rest run = ap (λ n. take n (text ++ rest)) run.ends ∙ take-append_seam text rest
+run_taken text rest run = front_taken _ text rest run.ends
 
 spelled_number : (text : List ℕ) (token : Body) → (number : Number) × (token ≡ body.Number number) → IsToken text token → (number : Number) × IsNumber text number
 spelled_number text token number is = (number.0, subst (IsToken text) number.1 is)
@@ -103,12 +102,8 @@ run_number (a ∷ text) rest token run is =
 
 no_literal : (fresh : Bool) (text rest : List ℕ) (number : Number) → IsNumberRun text rest → IsNumber text number → Fits fresh (text ++ rest) Literal → ⊥
 no_literal fresh text rest number run is (inl none) = none.1 number (subst (λ t. IsNumber t number) (sym (run_taken text rest run)) is)
-no_literal fresh text rest number run is (inr (inl character)) =
-    let digit = number_lead (text ++ rest) run.begins in
-    let quoted = quoted_lead character.wide 39 (text ++ rest) (character.inner ++ (39 ∷ character.after)) (inr refl) character.parts in cc
-no_literal fresh text rest number run is (inr (inr literal)) =
-    let digit = number_lead (text ++ rest) run.begins in
-    let quoted = quoted_lead literal.wide 34 (text ++ rest) (literal.inner ++ (34 ∷ literal.after)) (inl refl) literal.parts in cc
+no_literal fresh text rest number run is (inr (inl fault)) = (let digit = number_lead (text ++ rest) run.begins in let quoted = character_lead (text ++ rest) fault in cc)
+no_literal fresh text rest number run is (inr (inr fault)) = (let digit = number_lead (text ++ rest) run.begins in let quoted = literal_lead (text ++ rest) fault in cc)
 
 pub number_stands : (fresh : Bool) (text rest : List ℕ) (token : Body) → IsNumberRun text rest → IsToken text token → Stands fresh (text ++ rest) (Spelled text token) rest
 number_stands fresh text rest token run is =

@@ -122,40 +122,39 @@ no_longer text rest (Spelled other token) fresh after q h is (inl one) = omega (
 no_longer text rest (Spelled other token) fresh after q h is (inr quoted) = omega (arith, ap length (one_quotation text rest other after q (token_quotation other token quoted is) h))
 
 -- what ends as a quotation at this place is the one that stands there
-ended : (text rest : List ℕ) (wide : Bool) (quote : ℕ) (inner after : List ℕ) → IsQuotation text → IsQuote quote → IsInner quote false inner → text ++ rest ≡ opening wide ++ (quote ∷ (inner ++ (quote ∷ after))) → text ≡ opening wide ++ (quote ∷ (inner ++ (quote ∷ [])))
+ended : (text rest : List ℕ) (wide : Bool) (quote : ℕ) (inner after : List ℕ) (q : IsQuotation text) → IsQuote quote → IsInner quote false inner → text ++ rest ≡ opening wide ++ (quote ∷ (inner ++ (quote ∷ after)))
+    → (text ≡ opening wide ++ (quote ∷ (inner ++ (quote ∷ [])))) × (q.wide ≡ wide) × (q.quote ≡ quote)
 ended text rest wide quote inner after q kind inside h =
-    one_quotation text rest (opening wide ++ (quote ∷ (inner ++ (quote ∷ [])))) after q (record { wide = wide; quote = quote; inner = inner; kind = kind; parts = refl; inside = inside }) (h ∙ sym (regrouped wide quote inner after))
+    let whole = one_quotation text rest (opening wide ++ (quote ∷ (inner ++ (quote ∷ [])))) after q (record { wide = wide; quote = quote; inner = inner; kind = kind; parts = refl; inside = inside }) (h ∙ sym (regrouped wide quote inner after)) in
+    let same = same_opening q.wide wide q.quote quote (q.inner ++ (q.quote ∷ [])) (inner ++ (quote ∷ [])) q.kind kind (sym q.parts ∙ whole) in
+    (whole, same.0, same.1)
 
 quoted_token : (fresh : Bool) (text rest : List ℕ) (token : Body) → IsQuotation text → IsToken text token → IsQuotedToken token
 quoted_token fresh text rest token q is =
     elim (admitted_at fresh (text ++ rest) Quoted (Spelled text token) rest (quotation_lead text rest q) refl is) [ inl one ↦ absurd (omega (arith, one, quotation_long text q)) | inr quoted ↦ quoted ]
 
-some_character : (text rest : List ℕ) (token : Body) → IsQuotation text → IsQuotedToken token → IsToken text token → NoCharacter (text ++ rest) → ⊥
-some_character text rest (body.Character value wide) q quoted is fault =
-    let same = ended text rest fault.wide 39 fault.inner fault.after q (inr refl) fault.inside fault.parts in
-    let opened = same_opening wide fault.wide 39 39 (item_text is.item ++ (39 ∷ [])) (fault.inner ++ (39 ∷ [])) (inr refl) (inr refl) (sym is.parts ∙ same) in
-    fault.none value (subst (IsCharacter (opening fault.wide ++ (39 ∷ (fault.inner ++ (39 ∷ [])))) value) opened.0 (subst (λ t. IsCharacter t value wide) same is))
-some_character text rest (body.Literal units wide) q quoted is fault =
-    let same = ended text rest fault.wide 39 fault.inner fault.after q (inr refl) fault.inside fault.parts in
-    let opened = same_opening wide fault.wide 34 39 (flat_map item_text is.items ++ (34 ∷ [])) (fault.inner ++ (39 ∷ [])) (inl refl) (inr refl) (sym is.parts ∙ same) in
-    omega (arith, opened.1)
-some_character text rest token q quoted is fault = quoted
+some_character : (text rest : List ℕ) (token : Body) → IsQuotedToken token → IsToken text token → NoCharacter (text ++ rest) → ⊥
+unfolding token_quotation
+some_character text rest (body.Character value wide) quoted is fault =
+    let end = ended text rest fault.wide 39 fault.inner fault.after (token_quotation text (body.Character value wide) quoted is) (inr refl) fault.inside fault.parts in
+    fault.none value (subst (IsCharacter (opening fault.wide ++ (39 ∷ (fault.inner ++ (39 ∷ [])))) value) end.1 (subst (λ t. IsCharacter t value wide) end.0 is))
+some_character text rest (body.Literal units wide) quoted is fault =
+    let end = ended text rest fault.wide 39 fault.inner fault.after (token_quotation text (body.Literal units wide) quoted is) (inr refl) fault.inside fault.parts in omega (arith, end.2)
+some_character text rest token quoted is fault = quoted
 
-some_literal : (text rest : List ℕ) (token : Body) → IsQuotation text → IsQuotedToken token → IsToken text token → NoLiteral (text ++ rest) → ⊥
-some_literal text rest (body.Literal units wide) q quoted is fault =
-    let same = ended text rest fault.wide 34 fault.inner fault.after q (inl refl) fault.inside fault.parts in
-    let opened = same_opening wide fault.wide 34 34 (flat_map item_text is.items ++ (34 ∷ [])) (fault.inner ++ (34 ∷ [])) (inl refl) (inl refl) (sym is.parts ∙ same) in
-    fault.none units (subst (IsLiteral (opening fault.wide ++ (34 ∷ (fault.inner ++ (34 ∷ [])))) units) opened.0 (subst (λ t. IsLiteral t units wide) same is))
-some_literal text rest (body.Character value wide) q quoted is fault =
-    let same = ended text rest fault.wide 34 fault.inner fault.after q (inl refl) fault.inside fault.parts in
-    let opened = same_opening wide fault.wide 39 34 (item_text is.item ++ (39 ∷ [])) (fault.inner ++ (34 ∷ [])) (inr refl) (inl refl) (sym is.parts ∙ same) in
-    omega (arith, opened.1)
-some_literal text rest token q quoted is fault = quoted
+some_literal : (text rest : List ℕ) (token : Body) → IsQuotedToken token → IsToken text token → NoLiteral (text ++ rest) → ⊥
+unfolding token_quotation
+some_literal text rest (body.Literal units wide) quoted is fault =
+    let end = ended text rest fault.wide 34 fault.inner fault.after (token_quotation text (body.Literal units wide) quoted is) (inl refl) fault.inside fault.parts in
+    fault.none units (subst (IsLiteral (opening fault.wide ++ (34 ∷ (fault.inner ++ (34 ∷ [])))) units) end.1 (subst (λ t. IsLiteral t units wide) end.0 is))
+some_literal text rest (body.Character value wide) quoted is fault =
+    let end = ended text rest fault.wide 34 fault.inner fault.after (token_quotation text (body.Character value wide) quoted is) (inl refl) fault.inside fault.parts in omega (arith, end.2)
+some_literal text rest token quoted is fault = quoted
 
 some_token : (fresh : Bool) (text rest : List ℕ) (token : Body) → IsQuotation text → IsToken text token → Fits fresh (text ++ rest) Literal → ⊥
 some_token fresh text rest token q is (inl fault) = (let at = quotation_lead text rest q in let digit = number_lead (text ++ rest) fault.0 in cc)
-some_token fresh text rest token q is (inr (inl fault)) = some_character text rest token q (quoted_token fresh text rest token q is) is fault
-some_token fresh text rest token q is (inr (inr fault)) = some_literal text rest token q (quoted_token fresh text rest token q is) is fault
+some_token fresh text rest token q is (inr (inl fault)) = some_character text rest token (quoted_token fresh text rest token q is) is fault
+some_token fresh text rest token q is (inr (inr fault)) = some_literal text rest token (quoted_token fresh text rest token q is) is fault
 
 -- what never ends doesn't end here
 never_ends : (quote : ℕ) (bytes : List ℕ) (wide : Bool) (also : ℕ) (inner after : List ℕ) → NeverEnds quote bytes → IsQuote quote → IsQuote also → bytes ≡ opening wide ++ (also ∷ (inner ++ (also ∷ after))) → IsInner also false inner → ⊥

@@ -1,6 +1,7 @@
 -- Bytes of one class, and the run of them at the front.
 use Rattle.std.proofs.Common.{◌≡◌, ℕ, zero, suc, ◌+◌, ◌≤◌, List, [], ◌∷◌, ◌++◌, Bool, true, false, ◌==◌, ◌&&◌, cond, length, take, drop, refl, ◌∙◌, ap, arith}
 use Rattle.std.proofs.Math.Numerals.{one-add}
+use Rattle.std.proofs.Math.Seq.{take-append_seam, drop-append_seam}
 use Rattle.std.proofs.lemmas.Bool.{and_parts, and_from, eqb-true, eqb-false, eq-eqb}
 use Rattle.std.proofs.lemmas.List.Folds.{list_all-append}
 use Rattle.std.specs.List.{prefix_len, list_all}
@@ -17,6 +18,13 @@ all_weaker p q (x ∷ xs) weaker all =
 
 pub all_joined : (p : ℕ → Bool) (xs ys : List ℕ) → list_all p xs ≡ true → list_all p ys ≡ true → list_all p (xs ++ ys) ≡ true
 all_joined p xs ys one other = list_all-append p xs ys ∙ and_from _ _ one other
+
+-- what is as long as the front is the front
+pub front_taken : (count : ℕ) (front rest : List ℕ) → count ≡ length front → take count (front ++ rest) ≡ front
+front_taken count front rest is = ap (λ n. take n (front ++ rest)) is ∙ take-append_seam front rest
+
+pub front_dropped : (count : ℕ) (front rest : List ℕ) → count ≡ length front → drop count (front ++ rest) ≡ rest
+front_dropped count front rest is = ap (λ n. drop n (front ++ rest)) is ∙ drop-append_seam front rest
 
 run_step : (p : ℕ → Bool) (x : ℕ) (xs : List ℕ) (b : Bool) → p x ≡ b → list_all p (take (prefix_len p xs) xs) ≡ true → list_all p (take (cond b (1 + prefix_len p xs) 0) (x ∷ xs)) ≡ true
 run_step p x xs true is more = rw one-add (and_from _ _ is more)

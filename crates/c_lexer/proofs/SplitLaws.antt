@@ -1,6 +1,5 @@
 -- The bytes of a unit are split in one way, so they are one list of tokens or are refused at one place for one reason.
 use Rattle.std.proofs.Common.{◌≡◌, ◌⊎◌, inl, inr, ℕ, List, [], ◌∷◌, ◌++◌, Bool, length, take, drop, refl, sym, ◌∙◌, ap, subst, arith}
-use Rattle.std.proofs.Math.Seq.{take-append_seam, drop-append_seam}
 use Rattle.critical_table.specs.declared.pos.Pos.{Pos}
 use Rattle.critical_table.specs.declared.refusal.Refusal.{Refusal}
 use Rattle.critical_table.specs.declared.refusal.Refusal.TheVariants.{Size, Char, Unclosed, Literal, Directive, Profile, Syntax, Deep, Constraint}
@@ -15,6 +14,7 @@ use Rattle.c_lexer.specs.Parts.{Part, White, Spelled, part_text, IsToken, IsWhit
 use Rattle.c_lexer.specs.Rows.{IsFirstRow}
 use Rattle.c_lexer.specs.Lexing.{start, place_behind, place_after, tokens_of, Stands, Splits, AreTokens, IsRefused}
 use Rattle.c_lexer.proofs.Cases.{none_found}
+use Rattle.c_lexer.proofs.Runs.{front_taken, front_dropped}
 use Rattle.c_lexer.proofs.TokenLaws.{mark_full, one_token}
 use Rattle.c_lexer.proofs.Leads.{Lead, Quoted, Letter, Digit, Comment, Hash, Space, Other, lead, Admits, admitted}
 use Rattle.c_lexer.proofs.MarkPart.{mark_at_other}
@@ -22,8 +22,8 @@ use Rattle.c_lexer.proofs.MarkPart.{mark_at_other}
 -- two fronts of one length are one
 same_front : (a b x y : List ℕ) → a ++ x ≡ b ++ y → length a ≡ length b → (a ≡ b) × (x ≡ y)
 same_front a b x y same long = (
-  sym (take-append_seam a x) ∙ (ap (λ n. take n (a ++ x)) long ∙ (ap (take (length b)) same ∙ take-append_seam b y)),
-  sym (drop-append_seam a x) ∙ (ap (λ n. drop n (a ++ x)) long ∙ (ap (drop (length b)) same ∙ drop-append_seam b y)),
+  sym (front_taken (length b) a x (sym long)) ∙ (ap (take (length b)) same ∙ front_taken (length b) b y refl),
+  sym (front_dropped (length b) a x (sym long)) ∙ (ap (drop (length b)) same ∙ front_dropped (length b) b y refl),
 )
 
 comment_long : (text : List ℕ) → IsLineComment text ⊎ IsBlockComment text → length text ≡ 1 → ⊥

@@ -1,5 +1,5 @@
 -- A text spells at most one token.
-use Rattle.std.proofs.Common.{◌≡◌, inl, inr, ℕ, ◌<◌, List, [], ◌∷◌, ◌++◌, Bool, true, false, ◌==◌, ◌||◌, ◌&&◌, cond, length, refl, sym, ◌∙◌, ap, subst, arith}
+use Rattle.std.proofs.Common.{◌≡◌, inl, inr, ℕ, ◌<◌, List, [], ◌∷◌, ◌++◌, Bool, true, false, ◌==◌, ◌||◌, ◌&&◌, cond, length, refl, sym, ◌∙◌, ap, arith}
 use Rattle.std.proofs.lemmas.Bool.{and_parts, and_from, and_right, leb-true, le-leb, eqb-true, false≢true}
 use Rattle.std.specs.Prelude.{Result, Ok, Err, IfOk, IfSome, ℤ, Option, Some, None, is_some, slice_index, nat_le}
 use Rattle.std.specs.List.{list_all}
@@ -22,7 +22,7 @@ use Rattle.c_lexer.specs.Characters.{IsCharacter, IsLiteral}
 use Rattle.c_lexer.specs.ReadNumber.{number_of}
 use Rattle.c_lexer.specs.ReadCharacters.{character_of, literal_of}
 use Rattle.c_lexer.specs.Parts.{IsName, IsToken}
-use Rattle.c_lexer.proofs.Cases.{neq-eqb}
+use Rattle.c_lexer.proofs.Cases.{neq-eqb, other_byte}
 use Rattle.c_lexer.proofs.Tables.{listed_true}
 use Rattle.c_lexer.proofs.WordLaws.{word_sound, word_full}
 use Rattle.c_lexer.proofs.NumberLaws.{number_full}
@@ -179,13 +179,9 @@ mark_full p.CaretAssign = refl
 mark_full p.BarAssign = refl
 mark_full p.Comma = refl
 
-letter_no_digit : (b : ℕ) (t : Bool) → is_letter b ≡ true → is_ascii_digit b ≡ t → t ≡ false
+pub letter_no_digit : (b : ℕ) (t : Bool) → is_letter b ≡ true → is_ascii_digit b ≡ t → t ≡ false
 letter_no_digit b false letter is = refl
 letter_no_digit b true letter is = grind (arith, letter, is)
-
-no_quote : (quote b : ℕ) (t : Bool) → is_word_byte quote ≡ false → is_word_byte b ≡ true → (b == quote) ≡ t → t ≡ false
-no_quote quote b false not_word is_word is = refl
-no_quote quote b true not_word is_word is = absurd (false≢true (sym not_word ∙ subst (λ x. is_word_byte x ≡ true) (eqb-true b quote is) is_word))
 
 no_word : (text : List ℕ) (o : Option Word) → word_of text ≡ o → ((word : Word) → text ≡ word_text word → ⊥) → is_some o ≡ false
 no_word text None at none = refl
@@ -198,11 +194,11 @@ name_unquoted : (quote : ℕ) (text : List ℕ) → is_word_byte quote ≡ false
 unfolding quoted
 name_unquoted quote [] mark zero letter all some = absurd (false≢true letter)
 name_unquoted quote (a ∷ []) mark zero letter all some =
-    rw (no_quote quote a (a == quote) mark (and_parts (is_word_byte a) true all).0 refl) (and_right (a == 76) (0 == quote) (not_same quote some))
+    rw (other_byte is_word_byte quote a mark (and_parts (is_word_byte a) true all).0) (and_right (a == 76) (0 == quote) (not_same quote some))
 name_unquoted quote (a ∷ b ∷ text) mark zero letter all some =
     let first = and_parts (is_word_byte a) (list_all is_word_byte (b ∷ text)) all in
     let second = and_parts (is_word_byte b) (list_all is_word_byte text) first.1 in
-    rw (no_quote quote a (a == quote) mark first.0 refl) (and_right (a == 76) (b == quote) (no_quote quote b (b == quote) mark second.0 refl))
+    rw (other_byte is_word_byte quote a mark first.0) (and_right (a == 76) (b == quote) (other_byte is_word_byte quote b mark second.0))
 
 name_tag : (text : List ℕ) → IsName text → tag text ≡ 1
 unfolding tag

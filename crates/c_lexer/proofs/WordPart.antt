@@ -1,7 +1,6 @@
 -- A run of letters, digits and `_` stands where it spells a token, and is refused where it spells none.
 use Rattle.std.proofs.Common.{◌≡◌, ℕ, ◌≤◌, List, [], ◌∷◌, ◌++◌, Bool, true, false, ◌==◌, ◌&&◌, length, take, refl, sym, ◌∙◌, ap, subst, arith}
 use Rattle.std.proofs.lemmas.Bool.{and_parts, eqb-true, false≢true}
-use Rattle.std.proofs.Math.Seq.{take-append_seam}
 use Rattle.std.specs.Prelude.{slice_index}
 use Rattle.std.specs.List.{list_all, prefix_len}
 use Rattle.critical_table.specs.declared.refusal.Refusal.TheVariants.{Profile, Literal, Unclosed, Directive}
@@ -12,7 +11,7 @@ use Rattle.c_lexer.specs.Words.{is_outside}
 use Rattle.c_lexer.specs.Parts.{Part, White, Spelled, part_text, IsToken}
 use Rattle.c_lexer.specs.Rows.{IsFirstRow}
 use Rattle.c_lexer.specs.Lexing.{Stands}
-use Rattle.c_lexer.proofs.Runs.{run_whole, run_least}
+use Rattle.c_lexer.proofs.Runs.{front_taken, run_whole, run_least}
 use Rattle.c_lexer.proofs.TokenLaws.{outside_token}
 use Rattle.c_lexer.proofs.Leads.{Letter, lead, Admits, letter_lead, longer_lead, admitted_at, no_fit, no_row}
 
@@ -38,7 +37,7 @@ run_len : (text rest : List ℕ) → IsRun text rest → prefix_len is_word_byte
 run_len text rest run = run_whole is_word_byte text rest run.each run.ends
 
 run_taken : (text rest : List ℕ) → IsRun text rest → take (prefix_len is_word_byte (text ++ rest)) (text ++ rest) ≡ text
-run_taken text rest run = ap (λ n. take n (text ++ rest)) (run_len text rest run) ∙ take-append_seam text rest
+run_taken text rest run = front_taken _ text rest (run_len text rest run)
 
 longest_run : (bytes : List ℕ) (other : Part) (after : List ℕ) → Admits Letter other → bytes ≡ part_text other ++ after → length (part_text other) ≤ prefix_len is_word_byte bytes
 longest_run bytes (White text) after admits parts = absurd admits
