@@ -5,7 +5,7 @@ use Rattle.std.specs.Prelude.{slice_index, not, ◌≢◌}
 use Rattle.std.specs.List.{list_all, flat_map, prefix_len}
 use Rattle.std.specs.Char.{is_ascii_digit}
 use Rattle.critical_table.specs.declared.refusal.Refusal.{Refusal}
-use Rattle.critical_table.specs.declared.refusal.Refusal.TheVariants.{Size, Char, Unclosed, Literal, Directive, Profile, Syntax, Deep, Constraint}
+use Rattle.critical_table.specs.declared.refusal.Refusal.TheVariants.{Char, Unclosed, Literal, Directive, Profile}
 use Rattle.c_lexer.specs.declared.number.Number.{Number}
 use Rattle.c_lexer.specs.declared.punct.Punct.{Punct}
 use Rattle.c_lexer.specs.declared.word.Word.{Word}
@@ -47,12 +47,9 @@ lead bytes =
 
 -- the token is a character constant or a string literal
 abbrev pub IsQuotedToken : Body → Type 0
-IsQuotedToken (body.Word word) = ⊥
-IsQuotedToken (body.Name name) = ⊥
-IsQuotedToken (body.Number number) = ⊥
 IsQuotedToken (body.Character value wide) = Unit {0}
 IsQuotedToken (body.Literal units wide) = Unit {0}
-IsQuotedToken (body.Mark mark) = ⊥
+IsQuotedToken token = ⊥
 
 -- what may stand where this is at the front
 abbrev pub Admits : Lead → Part → Type 0
@@ -115,20 +112,18 @@ number_lead bytes begins =
     elim (either (is_ascii_digit (slice_index bytes 0)) (slice_index bytes 0 == 46 && is_ascii_digit (slice_index bytes 1)) begins)
     [ inl digit ↦ digit_lead bytes digit | inr both ↦ (let parts = and_parts _ _ both in point_lead bytes (eqb-true _ _ parts.0) parts.1) ]
 
-white_no_letter : (byte : ℕ) → is_white byte ≡ true → is_letter byte ≡ false
-white_no_letter byte white = not_true (is_letter byte) (λ letter. grind (arith, letter, white))
-
-white_no_digit : (byte : ℕ) → is_white byte ≡ true → is_ascii_digit byte ≡ false
-white_no_digit byte white = not_true (is_ascii_digit byte) (λ digit. grind (arith, digit, white))
+white_no_word : (byte : ℕ) → is_white byte ≡ true → is_word_byte byte ≡ false
+white_no_word byte white = not_true (is_word_byte byte) (λ word. grind (arith, word, white))
 
 pub white_lead : (byte : ℕ) (after : List ℕ) → is_white byte ≡ true → lead (byte ∷ after) ≡ Space
 unfolding lead
 white_lead byte after white =
+    let no_word = or_parts (is_letter byte) (is_ascii_digit byte) (white_no_word byte white) in
     rw (
       no_quote_in is_white byte refl refl white,
       other_byte is_white 76 byte refl white,
-      white_no_letter byte white,
-      white_no_digit byte white,
+      no_word.0,
+      no_word.1,
       other_byte is_white 46 byte refl white,
       other_byte is_white 47 byte refl white,
       other_byte is_white 35 byte refl white,
@@ -190,12 +185,7 @@ mark_may mark = lookup_true may_be_mark marks (mark_text mark) mark refl (mark_f
 
 other_admits : (l : Lead) (text : List ℕ) (mark : Punct) → is_other l ≡ true → Admits l (Spelled text (body.Mark mark))
 other_admits Other text mark is = (mark, refl)
-other_admits Quoted text mark is = absurd (false≢true is)
-other_admits Letter text mark is = absurd (false≢true is)
-other_admits Digit text mark is = absurd (false≢true is)
-other_admits Comment text mark is = absurd (false≢true is)
-other_admits Hash text mark is = absurd (false≢true is)
-other_admits Space text mark is = absurd (false≢true is)
+other_admits l text mark is = absurd (false≢true is)
 
 byte_admits : (quoted digit comment : Bool) (byte : ℕ) (mark : Punct) → Admits (cond quoted Quoted (cond digit Digit (cond comment Comment Other))) (Spelled (byte ∷ []) (body.Mark mark))
 byte_admits true digit comment byte mark = inl refl
@@ -294,10 +284,7 @@ fits_there fresh bytes Unclosed (inr (inl single)) = ap (may_fit Unclosed) (unen
 fits_there fresh bytes Unclosed (inr (inr double)) = ap (may_fit Unclosed) (unended_lead 34 bytes (inl refl) double)
 fits_there fresh bytes Directive fits = ap (may_fit Directive) (hash_lead bytes fits.1.parts)
 fits_there fresh bytes Char fits = refl
-fits_there fresh bytes Size fits = absurd fits
-fits_there fresh bytes Syntax fits = absurd fits
-fits_there fresh bytes Deep fits = absurd fits
-fits_there fresh bytes (Constraint number) fits = absurd fits
+fits_there fresh bytes why fits = absurd fits
 
 -- a row fits nowhere else
 pub no_fit : {at : Lead} (fresh : Bool) (bytes : List ℕ) (why : Refusal) → lead bytes ≡ at → may_fit why at ≡ false → Fits fresh bytes why → ⊥
@@ -317,7 +304,4 @@ no_row fresh bytes none Literal other fits = none.1 fits
 no_row fresh bytes none Unclosed other fits = none.2 fits
 no_row fresh bytes none Directive other fits = none.3 fits
 no_row fresh bytes none Char other fits = other refl
-no_row fresh bytes none Size other fits = fits
-no_row fresh bytes none Syntax other fits = fits
-no_row fresh bytes none Deep other fits = fits
-no_row fresh bytes none (Constraint number) other fits = fits
+no_row fresh bytes none why other fits = fits

@@ -7,12 +7,12 @@ use Rattle.std.specs.Prelude.{Option, Some, None, is_some, IfSome, IfNone, nat_e
 use Rattle.std.specs.List.{starts_with, AllByRecursion}
 use Rattle.std.specs.Str.{bytes_eq}
 use Rattle.c_lexer.specs.declared.punct.Punct.{Punct}
-use Rattle.c_lexer.specs.declared.punct.Punct.TheVariants as p
 use Rattle.c_lexer.specs.Lookup.{lookup}
 use Rattle.c_lexer.specs.Marks.{mark_text, marks, IsLongestMark}
 use Rattle.c_lexer.specs.ReadMark.{first_of, measured, mark_at}
 use Rattle.c_lexer.proofs.Cases.{either, none_found}
-use Rattle.c_lexer.proofs.Tables.{lookup_sound}
+use Rattle.c_lexer.proofs.Tables.{lookup_true}
+use Rattle.c_lexer.proofs.TokenLaws.{mark_full}
 
 -- rows of no shorter texts, and then one of this text
 abbrev reaches : List (List ℕ × Punct) → List ℕ → Bool
@@ -46,60 +46,12 @@ find_reached [] key bytes h begins = absurd (false≢true h)
 find_reached (row ∷ rows) key bytes h begins = found_now row rows key bytes (starts_with nat_eq bytes row.0) refl h begins (λ more. find_reached rows key bytes more begins)
 
 each_reached : (mark : Punct) → reaches marks (mark_text mark) ≡ true
-each_reached p.OpenBracket = refl
-each_reached p.CloseBracket = refl
-each_reached p.OpenParen = refl
-each_reached p.CloseParen = refl
-each_reached p.OpenBrace = refl
-each_reached p.CloseBrace = refl
-each_reached p.Dot = refl
-each_reached p.Arrow = refl
-each_reached p.Increment = refl
-each_reached p.Decrement = refl
-each_reached p.Ampersand = refl
-each_reached p.Star = refl
-each_reached p.Plus = refl
-each_reached p.Minus = refl
-each_reached p.Tilde = refl
-each_reached p.Exclamation = refl
-each_reached p.Slash = refl
-each_reached p.Percent = refl
-each_reached p.ShiftLeft = refl
-each_reached p.ShiftRight = refl
-each_reached p.Less = refl
-each_reached p.Greater = refl
-each_reached p.LessEqual = refl
-each_reached p.GreaterEqual = refl
-each_reached p.Equal = refl
-each_reached p.NotEqual = refl
-each_reached p.Caret = refl
-each_reached p.Bar = refl
-each_reached p.AndAnd = refl
-each_reached p.OrOr = refl
-each_reached p.Question = refl
-each_reached p.Colon = refl
-each_reached p.Semicolon = refl
-each_reached p.Ellipsis = refl
-each_reached p.Assign = refl
-each_reached p.StarAssign = refl
-each_reached p.SlashAssign = refl
-each_reached p.PercentAssign = refl
-each_reached p.PlusAssign = refl
-each_reached p.MinusAssign = refl
-each_reached p.ShiftLeftAssign = refl
-each_reached p.ShiftRightAssign = refl
-each_reached p.AmpersandAssign = refl
-each_reached p.CaretAssign = refl
-each_reached p.BarAssign = refl
-each_reached p.Comma = refl
-
-short_rows : AllByRecursion (λ row. nat_le (length row.0) 3 ≡ true) marks
-short_rows = (refl, (refl, (refl, (refl, (refl, (refl, (refl, (refl, (refl, (refl, (refl, (refl, (refl, (refl, (refl, (refl, (refl, (refl, (refl, (refl, (refl, (refl, (refl, (refl, (refl, (refl, (refl, (refl, (refl, (refl, (refl, (refl, (refl, (refl, (refl, (refl, (refl, (refl, (refl, (refl, (refl, (refl, (refl, (refl, (refl, (refl, tt))))))))))))))))))))))))))))))))))))))))))))))
+each_reached mark = lookup_true (reaches marks) marks (mark_text mark) mark refl (mark_full mark)
 
 mark_short_at : (text : List ℕ) (found : Option Punct) → lookup marks text ≡ found → 4 ≤ length text → is_some found ≡ false
 mark_short_at text None at long = refl
 mark_short_at text (Some mark) at long =
-    let short : length text ≤ 3 = leb-true (length text) 3 (lookup_sound (λ t x. nat_le (length t) 3 ≡ true) marks text mark short_rows at) in
+    let short : length text ≤ 3 = leb-true (length text) 3 (lookup_true (λ t. nat_le (length t) 3) marks text mark refl at) in
     absurd (omega arith)
 
 -- no mark is longer than three bytes

@@ -126,14 +126,11 @@ one_row fresh bytes Char Literal one two = absurd (one.1 two.0)
 one_row fresh bytes Char Unclosed one two = absurd (one.2 two.0)
 one_row fresh bytes Char Directive one two = absurd (one.3 two.0)
 one_row fresh bytes Char Char one two = refl
-one_row fresh bytes Size other one two = absurd one
-one_row fresh bytes Syntax other one two = absurd one
-one_row fresh bytes Deep other one two = absurd one
-one_row fresh bytes (Constraint number) other one two = absurd one
 one_row fresh bytes why Size one two = absurd two
 one_row fresh bytes why Syntax one two = absurd two
 one_row fresh bytes why Deep one two = absurd two
 one_row fresh bytes why (Constraint number) one two = absurd two
+one_row fresh bytes why other one two = absurd one
 
 pub same_refusal : (bytes : List ℕ) (why other : Refusal) (pos place : Pos) → IsRefused bytes why pos → IsRefused bytes other place → (why ≡ other) × (pos ≡ place)
 same_refusal bytes why other pos place one two =
