@@ -1,6 +1,6 @@
 -- What may stand at a place, and which rows may fit there, by the two bytes at the front.
 use Rattle.std.proofs.Common.{◌≡◌, ◌⊎◌, inl, inr, ℕ, List, [], ◌∷◌, ◌++◌, Bool, true, false, ◌==◌, ◌||◌, ◌&&◌, cond, length, take, zero, suc, refl, sym, ◌∙◌, ap, subst, arith, append_assoc}
-use Rattle.std.proofs.lemmas.Bool.{and_parts, and_from, and_left, and_right, or_from, or_parts, eqb-true, false≢true}
+use Rattle.std.proofs.lemmas.Bool.{and_parts, and_from, and_left, and_right, or_from, or_parts, eqb-true, false≢true, false_from_ne_true, not-true, or_cases}
 use Rattle.std.specs.Prelude.{slice_index, not, ◌≢◌}
 use Rattle.std.specs.List.{list_all, flat_map, prefix_len}
 use Rattle.std.specs.Char.{is_ascii_digit}
@@ -20,7 +20,7 @@ use Rattle.c_lexer.specs.Comments.{IsBlockComment, IsLineComment}
 use Rattle.c_lexer.specs.Directives.{IsDirective}
 use Rattle.c_lexer.specs.Parts.{Part, White, Spelled, part_text, IsPart, IsWhite}
 use Rattle.c_lexer.specs.Rows.{begins_number, NoCharacter, NoLiteral, NeverEnds, Fits, IsFirstRow}
-use Rattle.c_lexer.proofs.Cases.{either, other_byte, not_true, not_false}
+use Rattle.c_lexer.proofs.Cases.{other_byte}
 use Rattle.c_lexer.proofs.Tables.{lookup_true, listed_true}
 use Rattle.c_lexer.proofs.WordLaws.{word_full}
 use Rattle.c_lexer.proofs.TokenLaws.{letter_no_digit, mark_full, number_first}
@@ -96,7 +96,7 @@ pub longer_lead : (a b : ℕ) (bytes : List ℕ) → is_letter a ≡ true → is
 longer_lead a b bytes letter word = letter_lead (a ∷ b ∷ bytes) letter (and_right (a == 76) (is_quote b) (no_quote_in is_word_byte b refl refl word))
 
 digit_no_letter : (byte : ℕ) → is_ascii_digit byte ≡ true → is_letter byte ≡ false
-digit_no_letter byte digit = not_true (is_letter byte) (λ letter. false≢true (sym (letter_no_digit byte true letter digit)))
+digit_no_letter byte digit = false_from_ne_true (is_letter byte) (λ letter. false≢true (sym (letter_no_digit byte true letter digit)))
 
 digit_lead : (bytes : List ℕ) → is_ascii_digit (slice_index bytes 0) ≡ true → lead bytes ≡ Digit
 unfolding lead
@@ -109,11 +109,11 @@ point_lead bytes point digit = rw (point, digit) refl
 
 pub number_lead : (bytes : List ℕ) → begins_number bytes ≡ true → lead bytes ≡ Digit
 number_lead bytes begins =
-    elim (either (is_ascii_digit (slice_index bytes 0)) (slice_index bytes 0 == 46 && is_ascii_digit (slice_index bytes 1)) begins)
+    elim (or_cases (is_ascii_digit (slice_index bytes 0)) (slice_index bytes 0 == 46 && is_ascii_digit (slice_index bytes 1)) begins)
     [ inl digit ↦ digit_lead bytes digit | inr both ↦ (let parts = and_parts _ _ both in point_lead bytes (eqb-true _ _ parts.0) parts.1) ]
 
 white_no_word : (byte : ℕ) → is_white byte ≡ true → is_word_byte byte ≡ false
-white_no_word byte white = not_true (is_word_byte byte) (λ word. grind (arith, word, white))
+white_no_word byte white = false_from_ne_true (is_word_byte byte) (λ word. grind (arith, word, white))
 
 pub white_lead : (byte : ℕ) (after : List ℕ) → is_white byte ≡ true → lead (byte ∷ after) ≡ Space
 unfolding lead
@@ -206,7 +206,7 @@ mark_front : (text after : List ℕ) (mark : Punct) → may_be_mark text ≡ tru
 unfolding lead
 mark_front [] after mark may = absurd (false≢true may)
 mark_front (a ∷ []) after mark may =
-    admits_there (Spelled (a ∷ []) (body.Mark mark)) (byte_lead (a ∷ after) (not_false _ may)) (byte_admits _ _ _ a mark)
+    admits_there (Spelled (a ∷ []) (body.Mark mark)) (byte_lead (a ∷ after) (not-true _ may)) (byte_admits _ _ _ a mark)
 mark_front (a ∷ b ∷ text) after mark may = other_admits (lead (a ∷ b ∷ (text ++ after))) (a ∷ b ∷ text) mark may
 
 pub comment_lead : {second : ℕ} {rest : List ℕ} (bytes : List ℕ) → bytes ≡ 47 ∷ second ∷ rest → (second == 47 || second == 42) ≡ true → lead bytes ≡ Comment
@@ -248,7 +248,7 @@ taken_lead zero bytes other = absurd (false≢true other)
 taken_lead (suc n) [] other = absurd (false≢true other)
 taken_lead (suc n) (a ∷ bytes) other =
     let parts = and_parts (is_letter a) (not (a == 76)) other in
-    letter_lead (a ∷ bytes) parts.0 (and_left _ _ (not_false (a == 76) parts.1))
+    letter_lead (a ∷ bytes) parts.0 (and_left _ _ (not-true (a == 76) parts.1))
 
 outside_first : (text : List ℕ) → is_outside text ≡ true → is_other_letter (slice_index text 0) ≡ true
 unfolding is_outside

@@ -1,6 +1,6 @@
 -- A white byte stands alone; a line that begins with `#` stands where it is a directive, and is refused where it is none.
 use Rattle.std.proofs.Common.{◌≡◌, inl, inr, ℕ, List, [], ◌∷◌, ◌++◌, Bool, true, false, ◌==◌, length, take, refl, sym, ◌∙◌, ap, subst, arith}
-use Rattle.std.proofs.lemmas.Bool.{and_from}
+use Rattle.std.proofs.lemmas.Bool.{and_from, ne_eqb}
 use Rattle.std.specs.Prelude.{not}
 use Rattle.std.specs.List.{list_all, prefix_len}
 use Rattle.std.specs.Char.{is_ascii_digit}
@@ -13,7 +13,7 @@ use Rattle.c_lexer.specs.Directives.{headers, is_header, IsInclude, IsDefine, Is
 use Rattle.c_lexer.specs.Parts.{Part, White, Spelled, part_text, EndsLine}
 use Rattle.c_lexer.specs.Rows.{IsFirstRow}
 use Rattle.c_lexer.specs.Lexing.{Stands}
-use Rattle.c_lexer.proofs.Cases.{neq-eqb, other_byte}
+use Rattle.c_lexer.proofs.Cases.{other_byte}
 use Rattle.c_lexer.proofs.Runs.{all_weaker, all_joined, front_taken, run_whole, run_least, line_ends}
 use Rattle.c_lexer.proofs.DirectiveLaws.{among}
 use Rattle.c_lexer.proofs.Leads.{Hash, Space, white_lead, hash_lead, Admits, admitted_at, no_fit, char_first, no_row}
@@ -38,8 +38,8 @@ feedless class bytes outside all = all_weaker class (is_in Line) bytes (λ byte 
 
 inner_line : (quote : ℕ) (hidden : Bool) (bytes : List ℕ) → IsInner quote hidden bytes → list_all (is_in Line) bytes ≡ true
 inner_line quote hidden [] inside = refl
-inner_line quote true (byte ∷ bytes) inside = and_from _ _ (ap not (neq-eqb byte 10 inside.0)) (inner_line quote false bytes inside.1)
-inner_line quote false (byte ∷ bytes) inside = and_from _ _ (ap not (neq-eqb byte 10 inside.0)) (inner_line quote (byte == 92) bytes inside.2)
+inner_line quote true (byte ∷ bytes) inside = and_from _ _ (ap not (ne_eqb byte 10 inside.0)) (inner_line quote false bytes inside.1)
+inner_line quote false (byte ∷ bytes) inside = and_from _ _ (ap not (ne_eqb byte 10 inside.0)) (inner_line quote (byte == 92) bytes inside.2)
 
 header_line : (header : List ℕ) → is_header header ≡ true → list_all (is_in Line) header ≡ true
 unfolding is_header

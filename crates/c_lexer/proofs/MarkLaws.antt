@@ -1,6 +1,7 @@
 -- The first row of the table that stands at the front is the longest mark that does.
 use Rattle.std.proofs.Common.{◌≡◌, inl, inr, ℕ, ◌≤◌, List, [], ◌∷◌, ◌++◌, Bool, true, false, ◌||◌, ◌&&◌, cond, length, drop, refl, sym, ◌∙◌, ap, subst, arith}
-use Rattle.std.proofs.lemmas.Bool.{and_parts, leb-true, false≢true}
+use Rattle.std.proofs.lemmas.Bool.{and_parts, leb-true, false≢true, or_cases}
+use Rattle.std.proofs.lemmas.Option.{none-some}
 use Rattle.std.proofs.lemmas.Bool.Decides.{Decides-eqb}
 use Rattle.std.proofs.lemmas.Slice.Eq.{bytes_eq-Decides, starts_is}
 use Rattle.std.specs.Prelude.{Option, Some, None, is_some, IfSome, IfNone, nat_eq, nat_le}
@@ -10,7 +11,6 @@ use Rattle.c_lexer.specs.declared.punct.Punct.{Punct}
 use Rattle.c_lexer.specs.Lookup.{lookup}
 use Rattle.c_lexer.specs.Marks.{mark_text, marks, IsLongestMark}
 use Rattle.c_lexer.specs.ReadMark.{first_of, measured, mark_at}
-use Rattle.c_lexer.proofs.Cases.{either, none_found}
 use Rattle.c_lexer.proofs.Tables.{lookup_true}
 use Rattle.c_lexer.proofs.TokenLaws.{mark_full}
 
@@ -30,11 +30,11 @@ found_now : (row : List ℕ × Punct) (rows : List (List ℕ × Punct)) (key byt
 found_now row rows key bytes true at h begins more = record {
   row = row;
   found = ap (λ b. cond b (Some row) (first_of rows bytes)) at;
-  long = elim (either (bytes_eq row.0 key) (nat_le (length key) (length row.0) && reaches rows key) h)
+  long = elim (or_cases (bytes_eq row.0 key) (nat_le (length key) (length row.0) && reaches rows key) h)
       [ inl a ↦ omega (arith, ap length ((bytes_eq-Decides row.0 key).0 a)) | inr a ↦ leb-true (length key) (length row.0) (and_parts _ _ a).0 ];
 }
 found_now row rows key bytes false at h begins more =
-    elim (either (bytes_eq row.0 key) (nat_le (length key) (length row.0) && reaches rows key) h) [
+    elim (or_cases (bytes_eq row.0 key) (nat_le (length key) (length row.0) && reaches rows key) h) [
       | inl a ↦ absurd (false≢true (sym at ∙ (ap (starts_with nat_eq bytes) ((bytes_eq-Decides row.0 key).0 a) ∙ begins)))
       | inr a ↦
           let f = more (and_parts _ _ a).1 in
@@ -72,19 +72,19 @@ row_now row found rows bytes false at is more h = more h
 
 row_sound : (rows : List (List ℕ × Punct)) (bytes : List ℕ) (found : List ℕ × Punct) → AllByRecursion (λ row. row.0 ≡ mark_text row.1) rows → first_of rows bytes ≡ Some found
     → (found.0 ≡ mark_text found.1) × (bytes ≡ found.0 ++ drop (length found.0) bytes)
-row_sound [] bytes found all h = absurd (none_found h)
+row_sound [] bytes found all h = absurd (none-some _ h)
 row_sound (row ∷ rows) bytes found all h = row_now row found rows bytes (starts_with nat_eq bytes row.0) refl all.0 (row_sound rows bytes found all.1) h
 
 right_rows : AllByRecursion (λ row. row.0 ≡ mark_text row.1) marks
 right_rows = (refl, (refl, (refl, (refl, (refl, (refl, (refl, (refl, (refl, (refl, (refl, (refl, (refl, (refl, (refl, (refl, (refl, (refl, (refl, (refl, (refl, (refl, (refl, (refl, (refl, (refl, (refl, (refl, (refl, (refl, (refl, (refl, (refl, (refl, (refl, (refl, (refl, (refl, (refl, (refl, (refl, (refl, (refl, (refl, (refl, (refl, tt))))))))))))))))))))))))))))))))))))))))))))))
 
 read_sound : (bytes : List ℕ) (o : Option (List ℕ × Punct)) (r : Option (Punct × ℕ)) → first_of marks bytes ≡ o → r ≡ measured o → IfSome r (λ found. IsLongestMark bytes found.0 found.1) × IfNone r ((mark : Punct) (after : List ℕ) → bytes ≡ mark_text mark ++ after → ⊥)
-read_sound bytes (Some row) None at h = absurd (none_found h)
-read_sound bytes None (Some found) at h = absurd (none_found (sym h))
+read_sound bytes (Some row) None at h = absurd (none-some _ h)
+read_sound bytes None (Some found) at h = absurd (none-some _ (sym h))
 read_sound bytes None None at h = (
   tt,
   λ mark after is.
-      let f = find_reached marks (mark_text mark) bytes (each_reached mark) (begins bytes (mark_text mark) after is) in none_found (sym at ∙ f.found),
+      let f = find_reached marks (mark_text mark) bytes (each_reached mark) (begins bytes (mark_text mark) after is) in none-some _ (sym at ∙ f.found),
 )
 read_sound bytes (Some row) (Some found) at h =
     let same : (row.1, length row.0) ≡ found = cc in

@@ -1,6 +1,6 @@
 -- What begins as a number stands where it spells one, and is refused where it spells none.
 use Rattle.std.proofs.Common.{◌≡◌, inl, inr, ℕ, ◌≤◌, List, [], ◌∷◌, ◌++◌, Bool, true, false, ◌==◌, ◌&&◌, length, take, refl, sym, ◌∙◌, ap, subst, arith}
-use Rattle.std.proofs.lemmas.Bool.{and_parts, or_right, eqb-true, false≢true}
+use Rattle.std.proofs.lemmas.Bool.{and_parts, or_right, eqb-true, false≢true, or_cases}
 use Rattle.std.specs.Prelude.{slice_index}
 use Rattle.std.specs.List.{list_all}
 use Rattle.std.specs.Char.{is_ascii_digit}
@@ -16,7 +16,6 @@ use Rattle.c_lexer.specs.Numbers.{digits_of, suffixes, IsPrefix, IsConstant, IsN
 use Rattle.c_lexer.specs.Parts.{Part, White, Spelled, part_text, IsPart, IsToken}
 use Rattle.c_lexer.specs.Rows.{is_exponent, number_len, begins_number, Fits, IsFirstRow}
 use Rattle.c_lexer.specs.Lexing.{Stands}
-use Rattle.c_lexer.proofs.Cases.{either}
 use Rattle.c_lexer.proofs.Runs.{all_weaker, all_joined, front_taken}
 use Rattle.c_lexer.proofs.Tables.{lookup_true}
 use Rattle.c_lexer.proofs.TokenLaws.{octal_digit, digit_token}
@@ -68,7 +67,7 @@ point_more (a ∷ bytes) point digit = rw point (let more = digit_some (is_expon
 
 begins_some : (bytes : List ℕ) → begins_number bytes ≡ true → 1 ≤ number_len false bytes
 begins_some bytes begins =
-    elim (either (is_ascii_digit (slice_index bytes 0)) (slice_index bytes 0 == 46 && is_ascii_digit (slice_index bytes 1)) begins) [
+    elim (or_cases (is_ascii_digit (slice_index bytes 0)) (slice_index bytes 0 == 46 && is_ascii_digit (slice_index bytes 1)) begins) [
       | inl digit ↦ digit_some false bytes digit
       | inr both ↦ (let parts = and_parts (slice_index bytes 0 == 46) (is_ascii_digit (slice_index bytes 1)) both in let more = point_more bytes (eqb-true _ _ parts.0) parts.1 in omega (arith, more))
     ]
@@ -90,7 +89,7 @@ spelled_number text token number is = (number.0, subst (IsToken text) number.1 i
 run_number : (text rest : List ℕ) (token : Body) → IsNumberRun text rest → IsToken text token → (number : Number) × IsNumber text number
 run_number [] rest token run is = (let some = begins_some rest run.begins in let ends = run.ends in absurd (omega (arith, some, ends)))
 run_number (a ∷ text) rest token run is =
-    elim (either (is_ascii_digit a) (a == 46 && is_ascii_digit (slice_index (text ++ rest) 0)) run.begins) [
+    elim (or_cases (is_ascii_digit a) (a == 46 && is_ascii_digit (slice_index (text ++ rest) 0)) run.begins) [
       | inl digit ↦ spelled_number (a ∷ text) token (digit_token (a ∷ text) token digit is) is
       | inr both ↦
           let parts = and_parts (a == 46) (is_ascii_digit (slice_index (text ++ rest) 0)) both in

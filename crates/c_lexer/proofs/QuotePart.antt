@@ -1,6 +1,7 @@
 -- What stands between quotes is a token or is refused, and so is what no quote ends.
 use Rattle.std.proofs.Common.{◌≡◌, ◌⊎◌, inl, inr, ℕ, ◌≤◌, ◌<◌, List, [], ◌∷◌, ◌++◌, Bool, true, false, length, refl, sym, ◌∙◌, ap, subst, arith, append_assoc, length-append}
-use Rattle.std.proofs.lemmas.Bool.{and_parts}
+use Rattle.std.proofs.lemmas.Bool.{and_parts, ne_eqb}
+use Rattle.std.proofs.lemmas.Option.{none-some}
 use Rattle.std.proofs.lemmas.List.{append-nil, append_cancel_right}
 use Rattle.std.specs.Prelude.{Some, None}
 use Rattle.std.specs.List.{list_all, flat_map}
@@ -15,7 +16,7 @@ use Rattle.c_lexer.specs.ReadComment.{past_quote}
 use Rattle.c_lexer.specs.Parts.{IsToken, Part, White, Spelled, part_text, IsPart}
 use Rattle.c_lexer.specs.Rows.{NoCharacter, NoLiteral, NeverEnds, Fits, IsFirstRow}
 use Rattle.c_lexer.specs.Lexing.{Stands}
-use Rattle.c_lexer.proofs.Cases.{neq-eqb, told_apart, other_byte, none_found}
+use Rattle.c_lexer.proofs.Cases.{told_apart, other_byte}
 use Rattle.c_lexer.proofs.CommentLaws.{quote_full}
 use Rattle.c_lexer.proofs.Leads.{lead, Quoted, IsQuotedToken, IsQuote, each_quote, quoted_lead, comment_lead, number_lead, Admits, admitted_at, no_fit, no_row}
 
@@ -62,9 +63,9 @@ escape_inside : (quote : ℕ) (bytes : List ℕ) → IsQuote quote → IsInner q
 escape_inside quote bytes kind inside = (λ (e : 92 ≡ 10). omega arith, λ (e : 92 ≡ quote). omega arith, inside)
 
 item_inside : (wide : Bool) (quote : ℕ) (item : Item) (value : ℕ) (more : List ℕ) → IsQuote quote → IsItem wide quote item value → IsInner quote false more → IsInner quote false (item_text item ++ more)
-item_inside wide quote (Plain byte) value more kind fits inside = (fits.2, fits.0, rw (neq-eqb byte 92 fits.1) inside)
+item_inside wide quote (Plain byte) value more kind fits inside = (fits.2, fits.0, rw (ne_eqb byte 92 fits.1) inside)
 item_inside wide quote (Letter byte) value more kind fits inside =
-    escape_inside quote (byte ∷ more) kind (λ e. none_found (sym (ap (value_at escapes) e) ∙ fits), inside)
+    escape_inside quote (byte ∷ more) kind (λ e. none-some _ (sym (ap (value_at escapes) e) ∙ fits), inside)
 item_inside wide quote (Octal digits) value more kind fits inside = escape_inside quote (digits ++ more) kind (octal_inside quote digits more kind fits.0 fits.2 inside)
 item_inside wide quote (Hexadecimal digits) value more kind fits inside =
     escape_inside quote (120 ∷ (digits ++ more)) kind
@@ -209,7 +210,7 @@ open_never bytes q = record {
   wide = q.wide;
   rest = q.after;
   parts = q.parts;
-  never = λ inner after is inside. none_found (sym q.never ∙ (ap (past_quote q.quote false) is ∙ past_end q.quote inner after q.kind inside));
+  never = λ inner after is inside. none-some _ (sym q.never ∙ (ap (past_quote q.quote false) is ∙ past_end q.quote inner after q.kind inside));
 }
 
 no_end : (fresh : Bool) (bytes : List ℕ) (q : IsOpenQuotation bytes) → lead bytes ≡ Quoted → Fits fresh bytes Literal → ⊥

@@ -2,13 +2,12 @@
 use Rattle.std.proofs.Common.{◌≡◌, ℕ, zero, suc, ◌+◌, ◌≤◌, List, [], ◌∷◌, ◌++◌, Bool, true, false, ◌==◌, ◌&&◌, cond, length, take, drop, refl, ◌∙◌, ap, arith}
 use Rattle.std.proofs.Math.Numerals.{one-add}
 use Rattle.std.proofs.Math.Seq.{take-append_seam, drop-append_seam}
-use Rattle.std.proofs.lemmas.Bool.{and_parts, and_from, eqb-true, eqb-false, eq-eqb}
+use Rattle.std.proofs.lemmas.Bool.{and_parts, and_from, eqb-true, eqb-false, eq-eqb, ne_eqb}
 use Rattle.std.proofs.lemmas.List.Folds.{list_all-append}
 use Rattle.std.specs.List.{prefix_len, list_all}
 use Rattle.c_lexer.specs.declared.bytes.Class.TheVariants.{Line}
 use Rattle.c_lexer.specs.Classes.{is_in}
 use Rattle.c_lexer.specs.Parts.{EndsLine}
-use Rattle.c_lexer.proofs.Cases.{neq-eqb}
 
 pub all_weaker : (p q : ℕ → Bool) (xs : List ℕ) → ((x : ℕ) → p x ≡ true → q x ≡ true) → list_all p xs ≡ true → list_all q xs ≡ true
 all_weaker p q [] weaker all = refl
@@ -71,11 +70,11 @@ run_least p (d ∷ ds) rest all =
 
 eq_suc : (a b : ℕ) (t : Bool) → (a == b) ≡ t → (suc a == suc b) ≡ t
 eq_suc a b true h = eq-eqb (suc a) (suc b) (ap suc (eqb-true a b h))
-eq_suc a b false h = neq-eqb (suc a) (suc b) (λ (e : suc a ≡ suc b). eqb-false a b h (omega arith))
+eq_suc a b false h = ne_eqb (suc a) (suc b) (λ (e : suc a ≡ suc b). eqb-false a b h (omega arith))
 
 all_step : (p : ℕ → Bool) (x : ℕ) (xs : List ℕ) (b : Bool) → p x ≡ b → (prefix_len p xs == length xs) ≡ list_all p xs → (cond b (1 + prefix_len p xs) 0 == length (x ∷ xs)) ≡ (b && list_all p xs)
 all_step p x xs true is more = rw one-add (eq_suc (prefix_len p xs) (length xs) (list_all p xs) more)
-all_step p x xs false is more = neq-eqb 0 (suc (length xs)) (λ (e : 0 ≡ suc (length xs)). omega arith)
+all_step p x xs false is more = ne_eqb 0 (suc (length xs)) (λ (e : 0 ≡ suc (length xs)). omega arith)
 
 -- all are of the class where the run is whole
 pub run_is_all : (p : ℕ → Bool) (xs : List ℕ) → (prefix_len p xs == length xs) ≡ list_all p xs

@@ -1,5 +1,6 @@
 -- The bytes of a unit are split in one way, so they are one list of tokens or are refused at one place for one reason.
 use Rattle.std.proofs.Common.{◌≡◌, ◌⊎◌, inl, inr, ℕ, List, [], ◌∷◌, ◌++◌, Bool, length, take, drop, refl, sym, ◌∙◌, ap, subst, arith}
+use Rattle.std.proofs.lemmas.Option.{none-some}
 use Rattle.critical_table.specs.declared.pos.Pos.{Pos}
 use Rattle.critical_table.specs.declared.refusal.Refusal.{Refusal}
 use Rattle.critical_table.specs.declared.refusal.Refusal.TheVariants.{Size, Char, Unclosed, Literal, Directive, Profile, Syntax, Deep, Constraint}
@@ -13,7 +14,6 @@ use Rattle.c_lexer.specs.Comments.{IsBlockComment, IsLineComment}
 use Rattle.c_lexer.specs.Parts.{Part, White, Spelled, part_text, IsToken, IsWhite, IsPart}
 use Rattle.c_lexer.specs.Rows.{IsFirstRow}
 use Rattle.c_lexer.specs.Lexing.{start, place_behind, place_after, tokens_of, Stands, Splits, AreTokens, IsRefused}
-use Rattle.c_lexer.proofs.Cases.{none_found}
 use Rattle.c_lexer.proofs.Runs.{front_taken, front_dropped}
 use Rattle.c_lexer.proofs.TokenLaws.{mark_full, one_token}
 use Rattle.c_lexer.proofs.Leads.{Lead, Quoted, Letter, Digit, Comment, Hash, Space, Other, lead, Admits, admitted}
@@ -67,7 +67,7 @@ empty_front [] after none = refl
 empty_front (byte ∷ text) after none = absurd (cc)
 
 mark_some : (mark : Punct) → mark_text mark ≡ [] → ⊥
-mark_some mark none = none_found (sym (ap (lookup marks) none) ∙ mark_full mark)
+mark_some mark none = none-some _ (sym (ap (lookup marks) none) ∙ mark_full mark)
 
 no_bytes : (fresh : Bool) → IsEnd fresh []
 unfolding lead

@@ -1,6 +1,6 @@
 -- A text spells at most one token.
 use Rattle.std.proofs.Common.{◌≡◌, inl, inr, ℕ, ◌<◌, List, [], ◌∷◌, ◌++◌, Bool, true, false, ◌==◌, ◌||◌, ◌&&◌, cond, length, refl, sym, ◌∙◌, ap, arith}
-use Rattle.std.proofs.lemmas.Bool.{and_parts, and_from, and_right, leb-true, le-leb, eqb-true, false≢true}
+use Rattle.std.proofs.lemmas.Bool.{and_parts, and_from, and_right, leb-true, le-leb, eqb-true, false≢true, ne_eqb}
 use Rattle.std.specs.Prelude.{Result, Ok, Err, IfOk, IfSome, ℤ, Option, Some, None, is_some, slice_index, nat_le}
 use Rattle.std.specs.List.{list_all}
 use Rattle.std.specs.Char.{is_ascii_digit}
@@ -21,7 +21,7 @@ use Rattle.c_lexer.specs.Characters.{IsCharacter, IsLiteral}
 use Rattle.c_lexer.specs.ReadNumber.{number_of}
 use Rattle.c_lexer.specs.ReadCharacters.{character_of, literal_of}
 use Rattle.c_lexer.specs.Parts.{IsName, IsToken}
-use Rattle.c_lexer.proofs.Cases.{neq-eqb, other_byte}
+use Rattle.c_lexer.proofs.Cases.{other_byte}
 use Rattle.c_lexer.proofs.Tables.{lookup_true, listed_true}
 use Rattle.c_lexer.proofs.WordLaws.{word_sound, word_full}
 use Rattle.c_lexer.proofs.NumberLaws.{number_full}
@@ -109,7 +109,7 @@ no_word text None at none = refl
 no_word text (Some word) at none = absurd (none word (word_sound text word at))
 
 not_same : (quote : ℕ) → (quote ≡ 0 → ⊥) → (0 == quote) ≡ false
-not_same quote some = neq-eqb 0 quote (λ (e : 0 ≡ quote). some (sym e))
+not_same quote some = ne_eqb 0 quote (λ (e : 0 ≡ quote). some (sym e))
 
 name_unquoted : (quote : ℕ) (text : List ℕ) → is_word_byte quote ≡ false → is_word_byte 0 ≡ false → is_letter (slice_index text 0) ≡ true → list_all is_word_byte text ≡ true → (quote ≡ 0 → ⊥) → quoted quote text ≡ false
 unfolding quoted
