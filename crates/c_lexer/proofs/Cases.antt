@@ -1,15 +1,15 @@
 -- Which way a test went.
-use Rattle.std.proofs.Common.{◌≡◌, ◌⊎◌, inl, inr, ℕ, Bool, true, false, ◌==◌, ◌||◌, cond, refl, sym}
-use Rattle.std.proofs.lemmas.Bool.{eqb-true, false≢true}
+use Rattle.std.proofs.Common.{◌≡◌, ◌⊎◌, inl, inr, ℕ, Bool, true, false, ◌==◌, ◌||◌, cond, refl, sym, ◌∙◌, ap}
+use Rattle.std.proofs.lemmas.Bool.{eqb-true, false≢true, ne_eqb}
 use Rattle.std.specs.Prelude.{Option, Some, None, is_some, not}
 
 pub chosen : {A : Type 0} (b : Bool) (x y z : A) → cond b x y ≡ z → ((b ≡ true) × (x ≡ z)) ⊎ ((b ≡ false) × (y ≡ z))
 chosen true x y z h = inl (refl, h)
 chosen false x y z h = inr (refl, h)
 
-pub either : (x y : Bool) → (x || y) ≡ true → (x ≡ true) ⊎ (y ≡ true)
-either true y h = inl refl
-either false y h = inr h
+-- a byte of a class is none that is outside of it
+pub told_apart : (class : ℕ → Bool) (a b : ℕ) → class a ≡ true → class b ≡ false → a ≡ b → ⊥
+told_apart class a b inside outside same = false≢true (sym outside ∙ (ap class (sym same) ∙ inside))
 
 pub not_true : (b : Bool) → (b ≡ true → ⊥) → b ≡ false
 not_true true h = absurd (h refl)
@@ -32,3 +32,10 @@ not_is_false false h = sym h
 pub nothing_some : {A : Type 0} (o : Option A) → is_some o ≡ false → o ≡ None
 nothing_some None h = refl
 nothing_some (Some a) h = absurd (false≢true (sym h))
+
+pub other_byte : (class : ℕ → Bool) (value byte : ℕ) → class value ≡ false → class byte ≡ true → (byte == value) ≡ false
+other_byte class value byte outside inside = ne_eqb byte value (told_apart class byte value inside outside)
+
+pub either : (x y : Bool) → (x || y) ≡ true → (x ≡ true) ⊎ (y ≡ true)
+either true y h = inl refl
+either false y h = inr h

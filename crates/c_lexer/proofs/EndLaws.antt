@@ -18,7 +18,7 @@ use Rattle.c_lexer.specs.declared.mode.Quote.TheVariants.{Single, Double}
 use Rattle.c_lexer.specs.declared.punct.Punct.{Punct}
 use Rattle.c_lexer.specs.declared.punct.Punct.TheVariants as p
 use Rattle.c_lexer.specs.declared.token.Body.TheVariants as body
-use Rattle.c_lexer.specs.Bytes.{is_letter, is_word_byte, is_white}
+use Rattle.c_lexer.specs.Bytes.{is_letter, is_word_byte, is_white, is_quote}
 use Rattle.c_lexer.specs.Characters.{opening}
 use Rattle.c_lexer.specs.Classes.{is_in}
 use Rattle.c_lexer.specs.Comments.{IsLineComment}
@@ -36,7 +36,7 @@ use Rattle.c_lexer.proofs.Cases.{none_found}
 use Rattle.c_lexer.proofs.WordLaws.{word_full}
 use Rattle.c_lexer.proofs.TokenLaws.{one_token}
 use Rattle.c_lexer.proofs.CommentLaws.{close_none}
-use Rattle.c_lexer.proofs.Leads.{Lead, Hash, Other, is_quote, lead, no_part}
+use Rattle.c_lexer.proofs.Leads.{Lead, Hash, Other, lead}
 use Rattle.c_lexer.proofs.WordPart.{IsRun, word_stands, word_refused}
 use Rattle.c_lexer.proofs.NumberPart.{IsNumberRun, number_stands, number_refused}
 use Rattle.c_lexer.proofs.QuotePart.{IsQuotation, quotation_stands, quotation_refused, open_quotation_refused}
@@ -63,7 +63,7 @@ IsEnding fresh text rest (ending.Refused why) = IsNone fresh (text ++ rest) why
 
 refused : (fresh : Bool) (bytes : List ℕ) (why reason : Refusal) → reason ≡ why → why ≢ Char → Fits fresh bytes why → IsFirstRow fresh bytes why → IsNone fresh bytes reason
 refused fresh bytes why reason same other fits row =
-    subst (IsNone fresh bytes) (sym same) (record { none = no_part fresh bytes why fits other; row = row })
+    subst (IsNone fresh bytes) (sym same) (record { none = λ part after stands. stands.no_row why other fits; row = row })
 
 -- where a byte doesn't lead on, the test of it fails
 only_false : (test : Bool) (here : Mode) → only test here ≡ None → test ≡ false

@@ -1,17 +1,17 @@
 -- What may stand at a place, and which rows may fit there, by the two bytes at the front.
 use Rattle.std.proofs.Common.{◌≡◌, ◌⊎◌, inl, inr, ℕ, List, [], ◌∷◌, ◌++◌, Bool, true, false, ◌==◌, ◌||◌, ◌&&◌, cond, length, take, zero, suc, refl, sym, ◌∙◌, ap, subst, arith, append_assoc}
-use Rattle.std.proofs.lemmas.Bool.{and_parts, and_from, or_from, or_parts, eqb-true, false≢true}
+use Rattle.std.proofs.lemmas.Bool.{and_parts, and_from, and_left, and_right, or_from, or_parts, eqb-true, false≢true, false_from_ne_true, not-true, or_cases}
 use Rattle.std.specs.Prelude.{slice_index, not, ◌≢◌}
 use Rattle.std.specs.List.{list_all, flat_map, prefix_len}
 use Rattle.std.specs.Char.{is_ascii_digit}
 use Rattle.critical_table.specs.declared.refusal.Refusal.{Refusal}
-use Rattle.critical_table.specs.declared.refusal.Refusal.TheVariants.{Size, Char, Unclosed, Literal, Directive, Profile, Syntax, Deep, Constraint}
+use Rattle.critical_table.specs.declared.refusal.Refusal.TheVariants.{Char, Unclosed, Literal, Directive, Profile}
 use Rattle.c_lexer.specs.declared.number.Number.{Number}
 use Rattle.c_lexer.specs.declared.punct.Punct.{Punct}
 use Rattle.c_lexer.specs.declared.word.Word.{Word}
 use Rattle.c_lexer.specs.declared.token.Body.{Body}
 use Rattle.c_lexer.specs.declared.token.Body.TheVariants as body
-use Rattle.c_lexer.specs.Bytes.{is_letter, is_word_byte, is_white}
+use Rattle.c_lexer.specs.Bytes.{is_letter, is_word_byte, is_white, is_quote}
 use Rattle.c_lexer.specs.Words.{word_text, words, word_of, outside_words, is_outside}
 use Rattle.c_lexer.specs.Marks.{mark_text, marks}
 use Rattle.c_lexer.specs.Numbers.{IsNumber}
@@ -19,12 +19,11 @@ use Rattle.c_lexer.specs.Characters.{opening, item_text}
 use Rattle.c_lexer.specs.Comments.{IsBlockComment, IsLineComment}
 use Rattle.c_lexer.specs.Directives.{IsDirective}
 use Rattle.c_lexer.specs.Parts.{Part, White, Spelled, part_text, IsPart, IsWhite}
-use Rattle.c_lexer.specs.Rows.{begins_number, Fits, OpenComment}
-use Rattle.c_lexer.specs.Lexing.{Stands}
-use Rattle.c_lexer.proofs.Cases.{either, neq-eqb, not_true, not_false}
+use Rattle.c_lexer.specs.Rows.{begins_number, NoCharacter, NoLiteral, NeverEnds, Fits, IsFirstRow}
+use Rattle.c_lexer.proofs.Cases.{other_byte}
 use Rattle.c_lexer.proofs.Tables.{lookup_true, listed_true}
 use Rattle.c_lexer.proofs.WordLaws.{word_full}
-use Rattle.c_lexer.proofs.TokenLaws.{and_last, mark_full, number_first}
+use Rattle.c_lexer.proofs.TokenLaws.{letter_no_digit, mark_full, number_first}
 
 -- a quote, or L and a quote; a letter; a digit, or a point and a digit; what begins a comment; a #; one of the six bytes; none of these
 pub data Lead : Type 0 where
@@ -35,9 +34,6 @@ pub data Lead : Type 0 where
   Hash : Lead
   Space : Lead
   Other : Lead
-
-abbrev pub is_quote : ℕ → Bool
-is_quote byte = byte == 34 || byte == 39
 
 unfoldable pub lead : List ℕ → Lead
 lead bytes =
@@ -51,12 +47,9 @@ lead bytes =
 
 -- the token is a character constant or a string literal
 abbrev pub IsQuotedToken : Body → Type 0
-IsQuotedToken (body.Word word) = ⊥
-IsQuotedToken (body.Name name) = ⊥
-IsQuotedToken (body.Number number) = ⊥
 IsQuotedToken (body.Character value wide) = Unit {0}
 IsQuotedToken (body.Literal units wide) = Unit {0}
-IsQuotedToken (body.Mark mark) = ⊥
+IsQuotedToken token = ⊥
 
 -- what may stand where this is at the front
 abbrev pub Admits : Lead → Part → Type 0
@@ -75,17 +68,22 @@ Admits Space (Spelled text token) = ⊥
 Admits Other (White text) = ⊥
 Admits Other (Spelled text token) = (mark : Punct) × (token ≡ body.Mark mark)
 
--- a byte of a class is none that is outside of it
-other_byte : (class : ℕ → Bool) (value byte : ℕ) → class value ≡ false → class byte ≡ true → (byte == value) ≡ false
-other_byte class value byte outside inside = neq-eqb byte value (λ (e : byte ≡ value). false≢true (sym outside ∙ (ap class (sym e) ∙ inside)))
-
 no_quote_in : (class : ℕ → Bool) (byte : ℕ) → class 34 ≡ false → class 39 ≡ false → class byte ≡ true → is_quote byte ≡ false
 no_quote_in class byte double single inside = or_from _ _ (other_byte class 34 byte double inside) (other_byte class 39 byte single inside)
 
-pub quoted_lead : (wide : Bool) (quote : ℕ) (bytes rest : List ℕ) → is_quote quote ≡ true → bytes ≡ opening wide ++ (quote ∷ rest) → lead bytes ≡ Quoted
+-- 34 and 39 are the double and the single quote
+abbrev pub IsQuote : ℕ → Type 0
+IsQuote quote = (quote ≡ 34) ⊎ (quote ≡ 39)
+
+-- what holds of both quotes
+pub each_quote : (P : ℕ → Type 0) (quote : ℕ) → IsQuote quote → P 34 → P 39 → P quote
+each_quote P quote (inl is) double single = subst P (sym is) double
+each_quote P quote (inr is) double single = subst P (sym is) single
+
+pub quoted_lead : (wide : Bool) (quote : ℕ) (bytes rest : List ℕ) → IsQuote quote → bytes ≡ opening wide ++ (quote ∷ rest) → lead bytes ≡ Quoted
 unfolding lead
-quoted_lead false quote bytes rest is parts = rw (parts, is) refl
-quoted_lead true quote bytes rest is parts = rw (parts, is) refl
+quoted_lead false quote bytes rest is parts = ap lead parts ∙ each_quote (λ q. lead (q ∷ rest) ≡ Quoted) quote is refl refl
+quoted_lead true quote bytes rest is parts = ap lead parts ∙ each_quote (λ q. lead (76 ∷ q ∷ rest) ≡ Quoted) quote is refl refl
 
 run_lead : (bytes : List ℕ) → is_letter (slice_index bytes 0) ≡ true → lead bytes ≡ cond (slice_index bytes 0 == 76 && is_quote (slice_index bytes 1)) Quoted Letter
 unfolding lead
@@ -95,10 +93,10 @@ pub letter_lead : (bytes : List ℕ) → is_letter (slice_index bytes 0) ≡ tru
 letter_lead bytes letter unquoted = run_lead bytes letter ∙ ap (λ t. cond t Quoted Letter) unquoted
 
 pub longer_lead : (a b : ℕ) (bytes : List ℕ) → is_letter a ≡ true → is_word_byte b ≡ true → lead (a ∷ b ∷ bytes) ≡ Letter
-longer_lead a b bytes letter word = letter_lead (a ∷ b ∷ bytes) letter (and_last (a == 76) (is_quote b) (no_quote_in is_word_byte b refl refl word))
+longer_lead a b bytes letter word = letter_lead (a ∷ b ∷ bytes) letter (and_right (a == 76) (is_quote b) (no_quote_in is_word_byte b refl refl word))
 
 digit_no_letter : (byte : ℕ) → is_ascii_digit byte ≡ true → is_letter byte ≡ false
-digit_no_letter byte digit = not_true (is_letter byte) (λ letter. grind (arith, letter, digit))
+digit_no_letter byte digit = false_from_ne_true (is_letter byte) (λ letter. false≢true (sym (letter_no_digit byte true letter digit)))
 
 digit_lead : (bytes : List ℕ) → is_ascii_digit (slice_index bytes 0) ≡ true → lead bytes ≡ Digit
 unfolding lead
@@ -111,23 +109,21 @@ point_lead bytes point digit = rw (point, digit) refl
 
 pub number_lead : (bytes : List ℕ) → begins_number bytes ≡ true → lead bytes ≡ Digit
 number_lead bytes begins =
-    elim (either (is_ascii_digit (slice_index bytes 0)) (slice_index bytes 0 == 46 && is_ascii_digit (slice_index bytes 1)) begins)
+    elim (or_cases (is_ascii_digit (slice_index bytes 0)) (slice_index bytes 0 == 46 && is_ascii_digit (slice_index bytes 1)) begins)
     [ inl digit ↦ digit_lead bytes digit | inr both ↦ (let parts = and_parts _ _ both in point_lead bytes (eqb-true _ _ parts.0) parts.1) ]
 
-white_no_letter : (byte : ℕ) → is_white byte ≡ true → is_letter byte ≡ false
-white_no_letter byte white = not_true (is_letter byte) (λ letter. grind (arith, letter, white))
-
-white_no_digit : (byte : ℕ) → is_white byte ≡ true → is_ascii_digit byte ≡ false
-white_no_digit byte white = not_true (is_ascii_digit byte) (λ digit. grind (arith, digit, white))
+white_no_word : (byte : ℕ) → is_white byte ≡ true → is_word_byte byte ≡ false
+white_no_word byte white = false_from_ne_true (is_word_byte byte) (λ word. grind (arith, word, white))
 
 pub white_lead : (byte : ℕ) (after : List ℕ) → is_white byte ≡ true → lead (byte ∷ after) ≡ Space
 unfolding lead
 white_lead byte after white =
+    let no_word = or_parts (is_letter byte) (is_ascii_digit byte) (white_no_word byte white) in
     rw (
       no_quote_in is_white byte refl refl white,
       other_byte is_white 76 byte refl white,
-      white_no_letter byte white,
-      white_no_digit byte white,
+      no_word.0,
+      no_word.1,
       other_byte is_white 46 byte refl white,
       other_byte is_white 47 byte refl white,
       other_byte is_white 35 byte refl white,
@@ -138,13 +134,16 @@ single_admits : (t : Bool) (byte : ℕ) (token : Body) → is_word_byte byte ≡
 single_admits true byte token is = inl refl
 single_admits false byte token is = and_from _ _ is refl
 
+admits_there : {at l : Lead} (part : Part) → at ≡ l → Admits l part → Admits at part
+admits_there part is = subst (λ l. Admits l part) (sym is)
+
 run_admitted : (text after : List ℕ) (token : Body) → is_letter (slice_index text 0) ≡ true → list_all is_word_byte text ≡ true → Admits (lead (text ++ after)) (Spelled text token)
 run_admitted [] after token letter each = absurd (false≢true letter)
 run_admitted (a ∷ []) after token letter each =
-    subst (λ l. Admits l (Spelled (a ∷ []) token)) (sym (run_lead (a ∷ after) letter)) (single_admits (a == 76 && is_quote (slice_index after 0)) a token (and_parts _ _ each).0)
+    admits_there (Spelled (a ∷ []) token) (run_lead (a ∷ after) letter) (single_admits (a == 76 && is_quote (slice_index after 0)) a token (and_parts _ _ each).0)
 run_admitted (a ∷ b ∷ text) after token letter each =
     let second = and_parts (is_word_byte b) (list_all is_word_byte text) (and_parts (is_word_byte a) (list_all is_word_byte (b ∷ text)) each).1 in
-    subst (λ l. Admits l (Spelled (a ∷ b ∷ text) token)) (sym (longer_lead a b (text ++ after) letter second.0)) each
+    admits_there (Spelled (a ∷ b ∷ text) token) (longer_lead a b (text ++ after) letter second.0) each
 
 abbrev is_run : List ℕ → Bool
 is_run text = is_letter (slice_index text 0) && list_all is_word_byte text
@@ -164,9 +163,9 @@ digit_front (a ∷ text) after digit = digit_lead (a ∷ (text ++ after)) digit
 
 number_admitted : (text after : List ℕ) (number : Number) → IsNumber text number → Admits (lead (text ++ after)) (Spelled text (body.Number number))
 number_admitted text after number is =
-    subst (λ l. Admits l (Spelled text (body.Number number))) (sym (digit_front text after (number_first is.base is.before is.after text number is.parts is.prefix is.constant))) (inr (number, refl))
+    admits_there (Spelled text (body.Number number)) (digit_front text after (number_first is.base is.before is.after text number is.parts is.prefix is.constant)) (inr (number, refl))
 
-quoted_front : (wide : Bool) (quote : ℕ) (text after rest : List ℕ) → is_quote quote ≡ true → text ≡ opening wide ++ (quote ∷ rest) → lead (text ++ after) ≡ Quoted
+quoted_front : (wide : Bool) (quote : ℕ) (text after rest : List ℕ) → IsQuote quote → text ≡ opening wide ++ (quote ∷ rest) → lead (text ++ after) ≡ Quoted
 quoted_front wide quote text after rest is parts =
     quoted_lead wide quote (text ++ after) (rest ++ after) is (ap (λ t. t ++ after) parts ∙ append_assoc (opening wide) (quote ∷ rest) after)
 
@@ -186,12 +185,7 @@ mark_may mark = lookup_true may_be_mark marks (mark_text mark) mark refl (mark_f
 
 other_admits : (l : Lead) (text : List ℕ) (mark : Punct) → is_other l ≡ true → Admits l (Spelled text (body.Mark mark))
 other_admits Other text mark is = (mark, refl)
-other_admits Quoted text mark is = absurd (false≢true is)
-other_admits Letter text mark is = absurd (false≢true is)
-other_admits Digit text mark is = absurd (false≢true is)
-other_admits Comment text mark is = absurd (false≢true is)
-other_admits Hash text mark is = absurd (false≢true is)
-other_admits Space text mark is = absurd (false≢true is)
+other_admits l text mark is = absurd (false≢true is)
 
 byte_admits : (quoted digit comment : Bool) (byte : ℕ) (mark : Punct) → Admits (cond quoted Quoted (cond digit Digit (cond comment Comment Other))) (Spelled (byte ∷ []) (body.Mark mark))
 byte_admits true digit comment byte mark = inl refl
@@ -212,26 +206,24 @@ mark_front : (text after : List ℕ) (mark : Punct) → may_be_mark text ≡ tru
 unfolding lead
 mark_front [] after mark may = absurd (false≢true may)
 mark_front (a ∷ []) after mark may =
-    subst (λ l. Admits l (Spelled (a ∷ []) (body.Mark mark))) (sym (byte_lead (a ∷ after) (not_false _ may))) (byte_admits _ _ _ a mark)
+    admits_there (Spelled (a ∷ []) (body.Mark mark)) (byte_lead (a ∷ after) (not-true _ may)) (byte_admits _ _ _ a mark)
 mark_front (a ∷ b ∷ text) after mark may = other_admits (lead (a ∷ b ∷ (text ++ after))) (a ∷ b ∷ text) mark may
 
-pub comment_front : (text rest after : List ℕ) (second : ℕ) → (second == 47 || second == 42) ≡ true → text ≡ 47 ∷ second ∷ rest → lead (text ++ after) ≡ Comment
+pub comment_lead : {second : ℕ} {rest : List ℕ} (bytes : List ℕ) → bytes ≡ 47 ∷ second ∷ rest → (second == 47 || second == 42) ≡ true → lead bytes ≡ Comment
 unfolding lead
-comment_front text rest after second is parts = rw (parts, is) refl
+comment_lead bytes parts is = rw (parts, is) refl
 
-pub hash_front : (text rest after : List ℕ) → text ≡ 35 ∷ rest → lead (text ++ after) ≡ Hash
+pub hash_lead : {rest : List ℕ} (bytes : List ℕ) → bytes ≡ 35 ∷ rest → lead bytes ≡ Hash
 unfolding lead
-hash_front text rest after parts = rw parts refl
+hash_lead bytes parts = ap lead parts
 
 white_admitted : (fresh : Bool) (text after : List ℕ) → IsWhite fresh text after → Admits (lead (text ++ after)) (White text)
 white_admitted fresh text after (inl white) =
-    subst (λ l. Admits l (White text)) (sym (ap (λ t. lead (t ++ after)) white.1 ∙ white_lead white.0 after white.2)) (ap length white.1)
-white_admitted fresh text after (inr (inl line)) = subst (λ l. Admits l (White text)) (sym (comment_front text line.body after 47 refl line.parts)) (inl line)
+    admits_there (White text) (ap (λ t. lead (t ++ after)) white.1 ∙ white_lead white.0 after white.2) (ap length white.1)
+white_admitted fresh text after (inr (inl line)) = admits_there (White text) (comment_lead (text ++ after) (ap (λ t. t ++ after) line.parts) refl) (inl line)
 white_admitted fresh text after (inr (inr (inl block))) =
-    subst (λ l. Admits l (White text)) (sym (comment_front text (block.body ++ (42 ∷ 47 ∷ [])) after 42 refl block.parts)) (inr block)
-white_admitted fresh text after (inr (inr (inr directive))) =
-    let is = directive.1 in
-    subst (λ l. Admits l (White text)) (sym (hash_front text (is.before ++ is.text) after is.parts)) is
+    admits_there (White text) (comment_lead (text ++ after) (ap (λ t. t ++ after) block.parts) refl) (inr block)
+white_admitted fresh text after (inr (inr (inr directive))) = admits_there (White text) (hash_lead (text ++ after) (ap (λ t. t ++ after) directive.1.parts)) directive.1
 
 pub admitted : (fresh : Bool) (part : Part) (after : List ℕ) → IsPart fresh part after → Admits (lead (part_text part ++ after)) part
 admitted fresh (White text) after is = white_admitted fresh text after is
@@ -239,9 +231,9 @@ admitted fresh (Spelled text (body.Word word)) after is = word_admitted text aft
 admitted fresh (Spelled text (body.Name name)) after is = run_admitted text after (body.Name name) is.1.first is.1.each
 admitted fresh (Spelled text (body.Number number)) after is = number_admitted text after number is
 admitted fresh (Spelled text (body.Character value wide)) after is =
-    subst (λ l. Admits l (Spelled text (body.Character value wide))) (sym (quoted_front wide 39 text after (item_text is.item ++ (39 ∷ [])) refl is.parts)) (inr tt)
+    admits_there (Spelled text (body.Character value wide)) (quoted_front wide 39 text after (item_text is.item ++ (39 ∷ [])) (inr refl) is.parts) (inr tt)
 admitted fresh (Spelled text (body.Literal units wide)) after is =
-    subst (λ l. Admits l (Spelled text (body.Literal units wide))) (sym (quoted_front wide 34 text after (flat_map item_text is.items ++ (34 ∷ [])) refl is.parts)) (inr tt)
+    admits_there (Spelled text (body.Literal units wide)) (quoted_front wide 34 text after (flat_map item_text is.items ++ (34 ∷ [])) (inl refl) is.parts) (inr tt)
 admitted fresh (Spelled text (body.Mark mark)) after is = mark_front text after mark (ap may_be_mark is ∙ mark_may mark)
 
 pub admitted_at : (fresh : Bool) (bytes : List ℕ) (l : Lead) (other : Part) (after : List ℕ) → lead bytes ≡ l → bytes ≡ part_text other ++ after → IsPart fresh other after → Admits l other
@@ -256,47 +248,60 @@ taken_lead zero bytes other = absurd (false≢true other)
 taken_lead (suc n) [] other = absurd (false≢true other)
 taken_lead (suc n) (a ∷ bytes) other =
     let parts = and_parts (is_letter a) (not (a == 76)) other in
-    letter_lead (a ∷ bytes) parts.0 (ap (λ t. t && is_quote (slice_index bytes 0)) (not_false (a == 76) parts.1))
+    letter_lead (a ∷ bytes) parts.0 (and_left _ _ (not-true (a == 76) parts.1))
 
 outside_first : (text : List ℕ) → is_outside text ≡ true → is_other_letter (slice_index text 0) ≡ true
 unfolding is_outside
 outside_first text outside = listed_true (λ t. is_other_letter (slice_index t 0)) outside_words text refl outside
 
--- which rows fit behind which bytes
-pub profile_lead : (fresh : Bool) (bytes : List ℕ) → Fits fresh bytes Profile → lead bytes ≡ Letter
-profile_lead fresh bytes fits = taken_lead (prefix_len is_word_byte bytes) bytes (outside_first (take (prefix_len is_word_byte bytes) bytes) fits)
+pub character_lead : (bytes : List ℕ) → NoCharacter bytes → lead bytes ≡ Quoted
+character_lead bytes fault = quoted_lead fault.wide 39 bytes (fault.inner ++ (39 ∷ fault.after)) (inr refl) fault.parts
 
-pub literal_lead : (fresh : Bool) (bytes : List ℕ) → Fits fresh bytes Literal → (lead bytes ≡ Digit) ⊎ (lead bytes ≡ Quoted)
-literal_lead fresh bytes (inl number) = inl (number_lead bytes number.0)
-literal_lead fresh bytes (inr (inl character)) = inr (quoted_lead character.wide 39 bytes (character.inner ++ (39 ∷ character.after)) refl character.parts)
-literal_lead fresh bytes (inr (inr literal)) = inr (quoted_lead literal.wide 34 bytes (literal.inner ++ (34 ∷ literal.after)) refl literal.parts)
+pub literal_lead : (bytes : List ℕ) → NoLiteral bytes → lead bytes ≡ Quoted
+literal_lead bytes fault = quoted_lead fault.wide 34 bytes (fault.inner ++ (34 ∷ fault.after)) (inl refl) fault.parts
 
-comment_lead : (bytes : List ℕ) → OpenComment bytes → lead bytes ≡ Comment
-unfolding lead
-comment_lead bytes comment = ap lead comment.parts
+pub unended_lead : (quote : ℕ) (bytes : List ℕ) → IsQuote quote → NeverEnds quote bytes → lead bytes ≡ Quoted
+unended_lead quote bytes is fault = quoted_lead fault.wide quote bytes fault.rest is fault.parts
 
-pub unclosed_lead : (fresh : Bool) (bytes : List ℕ) → Fits fresh bytes Unclosed → (lead bytes ≡ Comment) ⊎ (lead bytes ≡ Quoted)
-unclosed_lead fresh bytes (inl comment) = inl (comment_lead bytes comment)
-unclosed_lead fresh bytes (inr (inl single)) = inr (quoted_lead single.wide 39 bytes single.rest refl single.parts)
-unclosed_lead fresh bytes (inr (inr double)) = inr (quoted_lead double.wide 34 bytes double.rest refl double.parts)
+-- where each row can fit
+abbrev pub may_fit : Refusal → Lead → Bool
+may_fit Profile Letter = true
+may_fit Literal Quoted = true
+may_fit Literal Digit = true
+may_fit Unclosed Quoted = true
+may_fit Unclosed Comment = true
+may_fit Directive Hash = true
+may_fit Char at = true
+may_fit why at = false
 
-pub directive_lead : (fresh : Bool) (bytes : List ℕ) → Fits fresh bytes Directive → lead bytes ≡ Hash
-unfolding lead
-directive_lead fresh bytes fits = ap lead fits.1.parts
+fits_there : (fresh : Bool) (bytes : List ℕ) (why : Refusal) → Fits fresh bytes why → may_fit why (lead bytes) ≡ true
+fits_there fresh bytes Profile fits = ap (may_fit Profile) (taken_lead (prefix_len is_word_byte bytes) bytes (outside_first (take (prefix_len is_word_byte bytes) bytes) fits))
+fits_there fresh bytes Literal (inl number) = ap (may_fit Literal) (number_lead bytes number.0)
+fits_there fresh bytes Literal (inr (inl character)) = ap (may_fit Literal) (character_lead bytes character)
+fits_there fresh bytes Literal (inr (inr literal)) = ap (may_fit Literal) (literal_lead bytes literal)
+fits_there fresh bytes Unclosed (inl comment) = ap (may_fit Unclosed) (comment_lead bytes comment.parts refl)
+fits_there fresh bytes Unclosed (inr (inl single)) = ap (may_fit Unclosed) (unended_lead 39 bytes (inr refl) single)
+fits_there fresh bytes Unclosed (inr (inr double)) = ap (may_fit Unclosed) (unended_lead 34 bytes (inl refl) double)
+fits_there fresh bytes Directive fits = ap (may_fit Directive) (hash_lead bytes fits.1.parts)
+fits_there fresh bytes Char fits = refl
+fits_there fresh bytes why fits = absurd fits
 
--- no part stands where a row other than Char fits
-pub no_part : (fresh : Bool) (bytes : List ℕ) (why : Refusal) → Fits fresh bytes why → (why ≡ Char → ⊥) → (part : Part) (after : List ℕ) → Stands fresh bytes part after → ⊥
-no_part fresh bytes why fits other part after stands = stands.no_row why other fits
+-- a row fits nowhere else
+pub no_fit : {at : Lead} (fresh : Bool) (bytes : List ℕ) (why : Refusal) → lead bytes ≡ at → may_fit why at ≡ false → Fits fresh bytes why → ⊥
+no_fit fresh bytes why at never fits = false≢true (sym never ∙ (ap (may_fit why) (sym at) ∙ fits_there fresh bytes why fits))
 
--- no row fits where these four don't
-pub no_row_of : (fresh : Bool) (bytes : List ℕ) → (Fits fresh bytes Profile → ⊥) → (Fits fresh bytes Literal → ⊥) → (Fits fresh bytes Unclosed → ⊥) → (Fits fresh bytes Directive → ⊥)
-    → (why : Refusal) → why ≢ Char → Fits fresh bytes why → ⊥
-no_row_of fresh bytes profile literal unclosed directive Profile other fits = profile fits
-no_row_of fresh bytes profile literal unclosed directive Literal other fits = literal fits
-no_row_of fresh bytes profile literal unclosed directive Unclosed other fits = unclosed fits
-no_row_of fresh bytes profile literal unclosed directive Directive other fits = directive fits
-no_row_of fresh bytes profile literal unclosed directive Char other fits = other refl
-no_row_of fresh bytes profile literal unclosed directive Size other fits = fits
-no_row_of fresh bytes profile literal unclosed directive Syntax other fits = fits
-no_row_of fresh bytes profile literal unclosed directive Deep other fits = fits
-no_row_of fresh bytes profile literal unclosed directive (Constraint number) other fits = fits
+-- where no word, number, comment or quotation begins, and no directive, Char is the first row
+pub char_first : {at : Lead} (fresh : Bool) (bytes : List ℕ) → lead bytes ≡ at → (may_fit Profile at || may_fit Literal at || may_fit Unclosed at) ≡ false → (Fits fresh bytes Directive → ⊥) → IsFirstRow fresh bytes Char
+char_first {at = l} fresh bytes at none directive =
+    let most = or_parts (may_fit Profile l || may_fit Literal l) (may_fit Unclosed l) none in
+    let two = or_parts (may_fit Profile l) (may_fit Literal l) most.0 in
+    (no_fit fresh bytes Profile at two.0, no_fit fresh bytes Literal at two.1, no_fit fresh bytes Unclosed at most.1, directive)
+
+-- no other row fits where Char is the first that does
+pub no_row : (fresh : Bool) (bytes : List ℕ) → IsFirstRow fresh bytes Char → (why : Refusal) → why ≢ Char → Fits fresh bytes why → ⊥
+no_row fresh bytes none Profile other fits = none.0 fits
+no_row fresh bytes none Literal other fits = none.1 fits
+no_row fresh bytes none Unclosed other fits = none.2 fits
+no_row fresh bytes none Directive other fits = none.3 fits
+no_row fresh bytes none Char other fits = other refl
+no_row fresh bytes none why other fits = fits

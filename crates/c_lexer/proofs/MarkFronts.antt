@@ -6,14 +6,14 @@ use Rattle.std.specs.List.{list_all}
 use Rattle.std.specs.Char.{is_ascii_digit}
 use Rattle.c_lexer.specs.declared.punct.Punct.{Punct}
 use Rattle.c_lexer.specs.declared.punct.Punct.TheVariants as p
-use Rattle.c_lexer.specs.Bytes.{is_letter, is_white}
+use Rattle.c_lexer.specs.Bytes.{is_letter, is_white, is_quote}
 use Rattle.c_lexer.specs.Lookup.{lookup}
 use Rattle.c_lexer.specs.Marks.{mark_text, marks}
 use Rattle.c_lexer.proofs.Cases.{either, not_false, neq-eqb}
 use Rattle.c_lexer.proofs.Tables.{lookup_true}
 use Rattle.c_lexer.proofs.MarkLaws.{mark_short}
 use Rattle.c_lexer.proofs.TokenLaws.{mark_full}
-use Rattle.c_lexer.proofs.Leads.{Hash, Other, is_quote, lead}
+use Rattle.c_lexer.proofs.Leads.{Hash, Other, lead}
 
 abbrev is_mark : List ℕ → Bool
 is_mark text = is_some (lookup marks text)

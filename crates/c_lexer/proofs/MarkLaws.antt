@@ -1,18 +1,18 @@
 -- The first row of the table that stands at the front is the longest mark that does.
 use Rattle.std.proofs.Common.{◌≡◌, inl, inr, ℕ, ◌≤◌, List, [], ◌∷◌, ◌++◌, Bool, true, false, ◌||◌, ◌&&◌, cond, length, drop, refl, sym, ◌∙◌, ap, subst, arith}
-use Rattle.std.proofs.lemmas.Bool.{and_parts, leb-true, false≢true}
+use Rattle.std.proofs.lemmas.Bool.{and_parts, leb-true, false≢true, or_cases}
+use Rattle.std.proofs.lemmas.Option.{none-some}
 use Rattle.std.proofs.lemmas.Bool.Decides.{Decides-eqb}
 use Rattle.std.proofs.lemmas.Slice.Eq.{bytes_eq-Decides, starts_is}
 use Rattle.std.specs.Prelude.{Option, Some, None, is_some, IfSome, IfNone, nat_eq, nat_le}
 use Rattle.std.specs.List.{starts_with, AllByRecursion}
 use Rattle.std.specs.Str.{bytes_eq}
 use Rattle.c_lexer.specs.declared.punct.Punct.{Punct}
-use Rattle.c_lexer.specs.declared.punct.Punct.TheVariants as p
 use Rattle.c_lexer.specs.Lookup.{lookup}
 use Rattle.c_lexer.specs.Marks.{mark_text, marks, IsLongestMark}
 use Rattle.c_lexer.specs.ReadMark.{first_of, measured, mark_at}
-use Rattle.c_lexer.proofs.Cases.{either, none_found}
-use Rattle.c_lexer.proofs.Tables.{lookup_sound}
+use Rattle.c_lexer.proofs.Tables.{lookup_true}
+use Rattle.c_lexer.proofs.TokenLaws.{mark_full}
 
 -- rows of no shorter texts, and then one of this text
 abbrev reaches : List (List ℕ × Punct) → List ℕ → Bool
@@ -30,11 +30,11 @@ found_now : (row : List ℕ × Punct) (rows : List (List ℕ × Punct)) (key byt
 found_now row rows key bytes true at h begins more = record {
   row = row;
   found = ap (λ b. cond b (Some row) (first_of rows bytes)) at;
-  long = elim (either (bytes_eq row.0 key) (nat_le (length key) (length row.0) && reaches rows key) h)
+  long = elim (or_cases (bytes_eq row.0 key) (nat_le (length key) (length row.0) && reaches rows key) h)
       [ inl a ↦ omega (arith, ap length ((bytes_eq-Decides row.0 key).0 a)) | inr a ↦ leb-true (length key) (length row.0) (and_parts _ _ a).0 ];
 }
 found_now row rows key bytes false at h begins more =
-    elim (either (bytes_eq row.0 key) (nat_le (length key) (length row.0) && reaches rows key) h) [
+    elim (or_cases (bytes_eq row.0 key) (nat_le (length key) (length row.0) && reaches rows key) h) [
       | inl a ↦ absurd (false≢true (sym at ∙ (ap (starts_with nat_eq bytes) ((bytes_eq-Decides row.0 key).0 a) ∙ begins)))
       | inr a ↦
           let f = more (and_parts _ _ a).1 in
@@ -46,60 +46,12 @@ find_reached [] key bytes h begins = absurd (false≢true h)
 find_reached (row ∷ rows) key bytes h begins = found_now row rows key bytes (starts_with nat_eq bytes row.0) refl h begins (λ more. find_reached rows key bytes more begins)
 
 each_reached : (mark : Punct) → reaches marks (mark_text mark) ≡ true
-each_reached p.OpenBracket = refl
-each_reached p.CloseBracket = refl
-each_reached p.OpenParen = refl
-each_reached p.CloseParen = refl
-each_reached p.OpenBrace = refl
-each_reached p.CloseBrace = refl
-each_reached p.Dot = refl
-each_reached p.Arrow = refl
-each_reached p.Increment = refl
-each_reached p.Decrement = refl
-each_reached p.Ampersand = refl
-each_reached p.Star = refl
-each_reached p.Plus = refl
-each_reached p.Minus = refl
-each_reached p.Tilde = refl
-each_reached p.Exclamation = refl
-each_reached p.Slash = refl
-each_reached p.Percent = refl
-each_reached p.ShiftLeft = refl
-each_reached p.ShiftRight = refl
-each_reached p.Less = refl
-each_reached p.Greater = refl
-each_reached p.LessEqual = refl
-each_reached p.GreaterEqual = refl
-each_reached p.Equal = refl
-each_reached p.NotEqual = refl
-each_reached p.Caret = refl
-each_reached p.Bar = refl
-each_reached p.AndAnd = refl
-each_reached p.OrOr = refl
-each_reached p.Question = refl
-each_reached p.Colon = refl
-each_reached p.Semicolon = refl
-each_reached p.Ellipsis = refl
-each_reached p.Assign = refl
-each_reached p.StarAssign = refl
-each_reached p.SlashAssign = refl
-each_reached p.PercentAssign = refl
-each_reached p.PlusAssign = refl
-each_reached p.MinusAssign = refl
-each_reached p.ShiftLeftAssign = refl
-each_reached p.ShiftRightAssign = refl
-each_reached p.AmpersandAssign = refl
-each_reached p.CaretAssign = refl
-each_reached p.BarAssign = refl
-each_reached p.Comma = refl
-
-short_rows : AllByRecursion (λ row. nat_le (length row.0) 3 ≡ true) marks
-short_rows = (refl, (refl, (refl, (refl, (refl, (refl, (refl, (refl, (refl, (refl, (refl, (refl, (refl, (refl, (refl, (refl, (refl, (refl, (refl, (refl, (refl, (refl, (refl, (refl, (refl, (refl, (refl, (refl, (refl, (refl, (refl, (refl, (refl, (refl, (refl, (refl, (refl, (refl, (refl, (refl, (refl, (refl, (refl, (refl, (refl, (refl, tt))))))))))))))))))))))))))))))))))))))))))))))
+each_reached mark = lookup_true (reaches marks) marks (mark_text mark) mark refl (mark_full mark)
 
 mark_short_at : (text : List ℕ) (found : Option Punct) → lookup marks text ≡ found → 4 ≤ length text → is_some found ≡ false
 mark_short_at text None at long = refl
 mark_short_at text (Some mark) at long =
-    let short : length text ≤ 3 = leb-true (length text) 3 (lookup_sound (λ t x. nat_le (length t) 3 ≡ true) marks text mark short_rows at) in
+    let short : length text ≤ 3 = leb-true (length text) 3 (lookup_true (λ t. nat_le (length t) 3) marks text mark refl at) in
     absurd (omega arith)
 
 -- no mark is longer than three bytes
@@ -120,19 +72,19 @@ row_now row found rows bytes false at is more h = more h
 
 row_sound : (rows : List (List ℕ × Punct)) (bytes : List ℕ) (found : List ℕ × Punct) → AllByRecursion (λ row. row.0 ≡ mark_text row.1) rows → first_of rows bytes ≡ Some found
     → (found.0 ≡ mark_text found.1) × (bytes ≡ found.0 ++ drop (length found.0) bytes)
-row_sound [] bytes found all h = absurd (none_found h)
+row_sound [] bytes found all h = absurd (none-some _ h)
 row_sound (row ∷ rows) bytes found all h = row_now row found rows bytes (starts_with nat_eq bytes row.0) refl all.0 (row_sound rows bytes found all.1) h
 
 pub right_rows : AllByRecursion (λ row. row.0 ≡ mark_text row.1) marks
 right_rows = (refl, (refl, (refl, (refl, (refl, (refl, (refl, (refl, (refl, (refl, (refl, (refl, (refl, (refl, (refl, (refl, (refl, (refl, (refl, (refl, (refl, (refl, (refl, (refl, (refl, (refl, (refl, (refl, (refl, (refl, (refl, (refl, (refl, (refl, (refl, (refl, (refl, (refl, (refl, (refl, (refl, (refl, (refl, (refl, (refl, (refl, tt))))))))))))))))))))))))))))))))))))))))))))))
 
 read_sound : (bytes : List ℕ) (o : Option (List ℕ × Punct)) (r : Option (Punct × ℕ)) → first_of marks bytes ≡ o → r ≡ measured o → IfSome r (λ found. IsLongestMark bytes found.0 found.1) × IfNone r ((mark : Punct) (after : List ℕ) → bytes ≡ mark_text mark ++ after → ⊥)
-read_sound bytes (Some row) None at h = absurd (none_found h)
-read_sound bytes None (Some found) at h = absurd (none_found (sym h))
+read_sound bytes (Some row) None at h = absurd (none-some _ h)
+read_sound bytes None (Some found) at h = absurd (none-some _ (sym h))
 read_sound bytes None None at h = (
   tt,
   λ mark after is.
-      let f = find_reached marks (mark_text mark) bytes (each_reached mark) (begins bytes (mark_text mark) after is) in none_found (sym at ∙ f.found),
+      let f = find_reached marks (mark_text mark) bytes (each_reached mark) (begins bytes (mark_text mark) after is) in none-some _ (sym at ∙ f.found),
 )
 read_sound bytes (Some row) (Some found) at h =
     let same : (row.1, length row.0) ≡ found = cc in

@@ -1,12 +1,10 @@
 -- What begins as a number stands where it spells one, and is refused where it spells none.
 use Rattle.std.proofs.Common.{◌≡◌, inl, inr, ℕ, ◌≤◌, List, [], ◌∷◌, ◌++◌, Bool, true, false, ◌==◌, ◌&&◌, length, take, refl, sym, ◌∙◌, ap, subst, arith}
-use Rattle.std.proofs.lemmas.Bool.{and_parts, and_from, or_right, eqb-true, false≢true}
-use Rattle.std.proofs.lemmas.List.Folds.{list_all-append}
-use Rattle.std.proofs.Math.Seq.{take-append_seam}
+use Rattle.std.proofs.lemmas.Bool.{and_parts, or_right, eqb-true, false≢true, or_cases}
 use Rattle.std.specs.Prelude.{slice_index}
 use Rattle.std.specs.List.{list_all}
 use Rattle.std.specs.Char.{is_ascii_digit}
-use Rattle.critical_table.specs.declared.refusal.Refusal.TheVariants.{Literal}
+use Rattle.critical_table.specs.declared.refusal.Refusal.TheVariants.{Profile, Literal, Unclosed, Directive}
 use Rattle.c_lexer.specs.declared.number.Base.{Base}
 use Rattle.c_lexer.specs.declared.number.Base.TheVariants.{Decimal, Octal, Hexadecimal}
 use Rattle.c_lexer.specs.declared.number.Number.{Number}
@@ -18,35 +16,26 @@ use Rattle.c_lexer.specs.Numbers.{digits_of, suffixes, IsPrefix, IsConstant, IsN
 use Rattle.c_lexer.specs.Parts.{Part, White, Spelled, part_text, IsPart, IsToken}
 use Rattle.c_lexer.specs.Rows.{is_exponent, number_len, begins_number, Fits, IsFirstRow}
 use Rattle.c_lexer.specs.Lexing.{Stands}
-use Rattle.c_lexer.proofs.Cases.{either}
+use Rattle.c_lexer.proofs.Runs.{all_weaker, all_joined, front_taken}
 use Rattle.c_lexer.proofs.Tables.{lookup_true}
 use Rattle.c_lexer.proofs.TokenLaws.{octal_digit, digit_token}
-use Rattle.c_lexer.proofs.Leads.{Digit, Admits, quoted_lead, number_lead, admitted_at, profile_lead, unclosed_lead, directive_lead, no_row_of}
+use Rattle.c_lexer.proofs.Leads.{Digit, Admits, character_lead, literal_lead, number_lead, admitted_at, no_fit, no_row}
 
 -- the text is all that goes on as a number
 pub record IsNumberRun (text rest : List ℕ) : Type 0 where
   pub begins : begins_number (text ++ rest) ≡ true
   pub ends : number_len false (text ++ rest) ≡ length text
 
-all_weaker : (p q : ℕ → Bool) (xs : List ℕ) → ((x : ℕ) → p x ≡ true → q x ≡ true) → list_all p xs ≡ true → list_all q xs ≡ true
-all_weaker p q [] weaker all = refl
-all_weaker p q (x ∷ xs) weaker all =
-    let parts = and_parts (p x) (list_all p xs) all in
-    and_from _ _ (weaker x parts.0) (all_weaker p q xs weaker parts.1)
-
 pub digit_word : (base : Base) (byte : ℕ) → is_in (digits_of base) byte ≡ true → is_word_byte byte ≡ true
 digit_word Decimal byte digit = or_right (is_letter byte) (is_ascii_digit byte) digit
 digit_word Octal byte digit = or_right (is_letter byte) (is_ascii_digit byte) (octal_digit byte digit)
 digit_word Hexadecimal byte digit = grind (arith, digit)
 
-all_joined : (xs ys : List ℕ) → list_all is_word_byte xs ≡ true → list_all is_word_byte ys ≡ true → list_all is_word_byte (xs ++ ys) ≡ true
-all_joined xs ys one other = list_all-append is_word_byte xs ys ∙ and_from _ _ one other
-
 constant_word : (base : Base) (text : List ℕ) (number : Number) → IsConstant base text number → list_all is_word_byte text ≡ true
 constant_word base text number is =
     let digits = all_weaker (is_in (digits_of base)) is_word_byte is.digits (digit_word base) is.each in
     let suffix = lookup_true (list_all is_word_byte) suffixes is.suffix (number.unsigned, number.longs) refl is.ending in
-    ap (list_all is_word_byte) is.parts ∙ all_joined is.digits is.suffix digits suffix
+    ap (list_all is_word_byte) is.parts ∙ all_joined is_word_byte is.digits is.suffix digits suffix
 
 prefix_word : (base : Base) (text : List ℕ) → IsPrefix base text → list_all is_word_byte text ≡ true
 prefix_word Decimal text is = ap (list_all is_word_byte) is
@@ -57,7 +46,7 @@ prefix_word Hexadecimal text (inr is) = ap (list_all is_word_byte) is
 -- a number is letters and digits
 number_word : (text : List ℕ) (number : Number) → IsNumber text number → list_all is_word_byte text ≡ true
 number_word text number is =
-    ap (list_all is_word_byte) is.parts ∙ all_joined is.before is.after (prefix_word is.base is.before is.prefix) (constant_word is.base is.after number is.constant)
+    ap (list_all is_word_byte) is.parts ∙ all_joined is_word_byte is.before is.after (prefix_word is.base is.before is.prefix) (constant_word is.base is.after number is.constant)
 
 -- letters and digits all go on
 number_least : (sign : Bool) (ds rest : List ℕ) → list_all is_word_byte ds ≡ true → length ds ≤ number_len sign (ds ++ rest)
@@ -78,7 +67,7 @@ point_more (a ∷ bytes) point digit = rw point (let more = digit_some (is_expon
 
 begins_some : (bytes : List ℕ) → begins_number bytes ≡ true → 1 ≤ number_len false bytes
 begins_some bytes begins =
-    elim (either (is_ascii_digit (slice_index bytes 0)) (slice_index bytes 0 == 46 && is_ascii_digit (slice_index bytes 1)) begins) [
+    elim (or_cases (is_ascii_digit (slice_index bytes 0)) (slice_index bytes 0 == 46 && is_ascii_digit (slice_index bytes 1)) begins) [
       | inl digit ↦ digit_some false bytes digit
       | inr both ↦ (let parts = and_parts (slice_index bytes 0 == 46) (is_ascii_digit (slice_index bytes 1)) both in let more = point_more bytes (eqb-true _ _ parts.0) parts.1 in omega (arith, more))
     ]
@@ -91,7 +80,7 @@ longest_number bytes (Spelled text token) after fresh begins (inr number) parts 
     subst (λ b. length text ≤ number_len false b) (sym parts) (number_least false text after all)
 
 run_taken : (text rest : List ℕ) → IsNumberRun text rest → take (number_len false (text ++ rest)) (text ++ rest) ≡ text
-run_taken text rest run = ap (λ n. take n (text ++ rest)) run.ends ∙ take-append_seam text rest
+run_taken text rest run = front_taken _ text rest run.ends
 
 spelled_number : (text : List ℕ) (token : Body) → (number : Number) × (token ≡ body.Number number) → IsToken text token → (number : Number) × IsNumber text number
 spelled_number text token number is = (number.0, subst (IsToken text) number.1 is)
@@ -100,7 +89,7 @@ spelled_number text token number is = (number.0, subst (IsToken text) number.1 i
 run_number : (text rest : List ℕ) (token : Body) → IsNumberRun text rest → IsToken text token → (number : Number) × IsNumber text number
 run_number [] rest token run is = (let some = begins_some rest run.begins in let ends = run.ends in absurd (omega (arith, some, ends)))
 run_number (a ∷ text) rest token run is =
-    elim (either (is_ascii_digit a) (a == 46 && is_ascii_digit (slice_index (text ++ rest) 0)) run.begins) [
+    elim (or_cases (is_ascii_digit a) (a == 46 && is_ascii_digit (slice_index (text ++ rest) 0)) run.begins) [
       | inl digit ↦ spelled_number (a ∷ text) token (digit_token (a ∷ text) token digit is) is
       | inr both ↦
           let parts = and_parts (a == 46) (is_ascii_digit (slice_index (text ++ rest) 0)) both in
@@ -112,12 +101,8 @@ run_number (a ∷ text) rest token run is =
 
 no_literal : (fresh : Bool) (text rest : List ℕ) (number : Number) → IsNumberRun text rest → IsNumber text number → Fits fresh (text ++ rest) Literal → ⊥
 no_literal fresh text rest number run is (inl none) = none.1 number (subst (λ t. IsNumber t number) (sym (run_taken text rest run)) is)
-no_literal fresh text rest number run is (inr (inl character)) =
-    let digit = number_lead (text ++ rest) run.begins in
-    let quoted = quoted_lead character.wide 39 (text ++ rest) (character.inner ++ (39 ∷ character.after)) refl character.parts in cc
-no_literal fresh text rest number run is (inr (inr literal)) =
-    let digit = number_lead (text ++ rest) run.begins in
-    let quoted = quoted_lead literal.wide 34 (text ++ rest) (literal.inner ++ (34 ∷ literal.after)) refl literal.parts in cc
+no_literal fresh text rest number run is (inr (inl fault)) = (let digit = number_lead (text ++ rest) run.begins in let quoted = character_lead (text ++ rest) fault in cc)
+no_literal fresh text rest number run is (inr (inr fault)) = (let digit = number_lead (text ++ rest) run.begins in let quoted = literal_lead (text ++ rest) fault in cc)
 
 pub number_stands : (fresh : Bool) (text rest : List ℕ) (token : Body) → IsNumberRun text rest → IsToken text token → Stands fresh (text ++ rest) (Spelled text token) rest
 number_stands fresh text rest token run is =
@@ -128,15 +113,16 @@ number_stands fresh text rest token run is =
       longest = λ other after parts part.
           let longest = longest_number (text ++ rest) other after fresh run.begins (admitted_at fresh (text ++ rest) Digit other after at parts part) parts part in
           let ends = run.ends in omega (arith, longest, ends);
-      no_row = no_row_of fresh (text ++ rest) (λ fits. let e = profile_lead fresh (text ++ rest) fits in cc)
-          (no_literal fresh text rest number.0 run number.1)
-          (λ fits. elim (unclosed_lead fresh (text ++ rest) fits) [ inl e ↦ cc | inr e ↦ cc ])
-          (λ fits. let e = directive_lead fresh (text ++ rest) fits in cc);
+      no_row = no_row fresh (text ++ rest) (
+        no_fit fresh (text ++ rest) Profile at refl,
+        no_literal fresh text rest number.0 run number.1,
+        no_fit fresh (text ++ rest) Unclosed at refl,
+        no_fit fresh (text ++ rest) Directive at refl,
+      );
     }
 
 pub number_refused : (fresh : Bool) (text rest : List ℕ) → IsNumberRun text rest → ((token : Body) → IsToken text token → ⊥) → IsFirstRow fresh (text ++ rest) Literal
-number_refused fresh text rest run none =
-    let at = number_lead (text ++ rest) run.begins in (
-      inl (run.begins, λ number is. none (body.Number number) (subst (λ t. IsNumber t number) (run_taken text rest run) is)),
-      λ fits. let e = profile_lead fresh (text ++ rest) fits in cc,
-    )
+number_refused fresh text rest run none = (
+  inl (run.begins, λ number is. none (body.Number number) (subst (λ t. IsNumber t number) (run_taken text rest run) is)),
+  no_fit fresh (text ++ rest) Profile (number_lead (text ++ rest) run.begins) refl,
+)

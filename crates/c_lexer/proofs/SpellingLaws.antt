@@ -1,6 +1,6 @@
 -- The token that a whole text spells.
 use Rattle.std.proofs.Common.{◌≡◌, ℕ, ◌≤◌, List, [], ◌++◌, true, false, ◌&&◌, length, drop, sym, ◌∙◌, ap, arith, append-nil, length-append}
-use Rattle.std.proofs.lemmas.Bool.{and_parts, and_from, false≢true}
+use Rattle.std.proofs.lemmas.Bool.{and_parts, and_from, false≢true, not-true}
 use Rattle.std.proofs.lemmas.List.{drop_all}
 use Rattle.std.specs.Prelude.{slice_index, not}
 use Rattle.std.specs.List.{list_all}
@@ -12,7 +12,6 @@ use Rattle.c_lexer.specs.Bytes.{is_letter, is_word_byte}
 use Rattle.c_lexer.specs.Marks.{mark_text, IsLongestMark}
 use Rattle.c_lexer.specs.Words.{word_text, is_outside}
 use Rattle.c_lexer.specs.Parts.{IsName, IsToken, IsNoOther}
-use Rattle.c_lexer.proofs.Cases.{not_false}
 
 pub mark_whole : (text : List ℕ) (mark : Punct) (count : ℕ) → IsLongestMark text mark count → count ≡ length text → text ≡ mark_text mark
 mark_whole text mark count m all =
@@ -27,7 +26,7 @@ pub name_from : (text : List ℕ) → (is_letter (slice_index text 0) && (list_a
 name_from text h none =
     let first = and_parts (is_letter (slice_index text 0)) (list_all is_word_byte text && not (is_outside text)) h in
     let second = and_parts (list_all is_word_byte text) (not (is_outside text)) first.1 in
-    record { first = first.0; each = second.0; no_word = none; inside = not_false (is_outside text) second.1 }
+    record { first = first.0; each = second.0; no_word = none; inside = not-true (is_outside text) second.1 }
 
 identifier : (text : List ℕ) → IsName text → (is_letter (slice_index text 0) && (list_all is_word_byte text && not (is_outside text))) ≡ true
 identifier text n = and_from _ _ n.first (and_from _ _ n.each (ap not n.inside))

@@ -1,6 +1,6 @@
 -- The bytes of a unit are split in one way, so they are one list of tokens or are refused at one place for one reason.
 use Rattle.std.proofs.Common.{◌≡◌, ◌⊎◌, inl, inr, ℕ, ◌<◌, List, [], ◌∷◌, ◌++◌, Bool, false, length, take, drop, refl, sym, ◌∙◌, ap, subst, arith}
-use Rattle.std.proofs.Math.Seq.{take-append_seam, drop-append_seam}
+use Rattle.std.proofs.lemmas.Option.{none-some}
 use Rattle.critical_table.specs.declared.pos.Pos.{Pos}
 use Rattle.critical_table.specs.declared.refusal.Refusal.{Refusal}
 use Rattle.critical_table.specs.declared.refusal.Refusal.TheVariants.{Size, Char, Unclosed, Literal, Directive, Profile, Syntax, Deep, Constraint}
@@ -14,15 +14,16 @@ use Rattle.c_lexer.specs.Comments.{IsBlockComment, IsLineComment}
 use Rattle.c_lexer.specs.Parts.{Part, White, Spelled, part_text, IsToken, IsWhite, IsPart}
 use Rattle.c_lexer.specs.Rows.{IsFirstRow}
 use Rattle.c_lexer.specs.Lexing.{start, place_behind, place_after, tokens_of, Stands, Splits, AreTokens, IsRefused}
-use Rattle.c_lexer.proofs.Cases.{none_found}
+use Rattle.c_lexer.proofs.Runs.{front_taken, front_dropped}
 use Rattle.c_lexer.proofs.TokenLaws.{mark_full, one_token}
 use Rattle.c_lexer.proofs.Leads.{Lead, Quoted, Letter, Digit, Comment, Hash, Space, Other, lead, Admits, admitted}
+use Rattle.c_lexer.proofs.MarkPart.{mark_at_other}
 
 -- two fronts of one length are one
 same_front : (a b x y : List ℕ) → a ++ x ≡ b ++ y → length a ≡ length b → (a ≡ b) × (x ≡ y)
 same_front a b x y same long = (
-  sym (take-append_seam a x) ∙ (ap (λ n. take n (a ++ x)) long ∙ (ap (take (length b)) same ∙ take-append_seam b y)),
-  sym (drop-append_seam a x) ∙ (ap (λ n. drop n (a ++ x)) long ∙ (ap (drop (length b)) same ∙ drop-append_seam b y)),
+  sym (front_taken (length b) a x (sym long)) ∙ (ap (take (length b)) same ∙ front_taken (length b) b y refl),
+  sym (front_dropped (length b) a x (sym long)) ∙ (ap (drop (length b)) same ∙ front_dropped (length b) b y refl),
 )
 
 comment_long : (text : List ℕ) → IsLineComment text ⊎ IsBlockComment text → length text ≡ 1 → ⊥
@@ -66,14 +67,13 @@ empty_front [] after none = refl
 empty_front (byte ∷ text) after none = absurd (cc)
 
 pub mark_some : (mark : Punct) → mark_text mark ≡ [] → ⊥
-mark_some mark none = none_found (sym (ap (lookup marks) none) ∙ mark_full mark)
+mark_some mark none = none-some _ (sym (ap (lookup marks) none) ∙ mark_full mark)
 
 no_bytes : (fresh : Bool) → IsEnd fresh []
 unfolding lead
-no_bytes fresh (White text) after stands = subst (λ t. Admits (lead t) (White text)) (sym stands.parts) (admitted fresh (White text) after stands.is)
-no_bytes fresh (Spelled text token) after stands =
-    let mark = subst (λ t. Admits (lead t) (Spelled text token)) (sym stands.parts) (admitted fresh (Spelled text token) after stands.is) in
-    mark_some mark.0 (sym (subst (IsToken text) mark.1 stands.is) ∙ empty_front text after stands.parts)
+no_bytes fresh part after stands =
+    let mark = mark_at_other fresh [] part after refl stands.parts stands.is in
+    mark_some mark.0 (sym mark.1 ∙ empty_front (part_text part) after stands.parts)
 
 -- a token has bytes
 pub spelled_some : (text : List ℕ) (token : Body) → IsToken text token → 0 < length text
@@ -132,14 +132,11 @@ one_row fresh bytes Char Literal one two = absurd (one.1 two.0)
 one_row fresh bytes Char Unclosed one two = absurd (one.2 two.0)
 one_row fresh bytes Char Directive one two = absurd (one.3 two.0)
 one_row fresh bytes Char Char one two = refl
-one_row fresh bytes Size other one two = absurd one
-one_row fresh bytes Syntax other one two = absurd one
-one_row fresh bytes Deep other one two = absurd one
-one_row fresh bytes (Constraint number) other one two = absurd one
 one_row fresh bytes why Size one two = absurd two
 one_row fresh bytes why Syntax one two = absurd two
 one_row fresh bytes why Deep one two = absurd two
 one_row fresh bytes why (Constraint number) one two = absurd two
+one_row fresh bytes why other one two = absurd one
 
 pub same_refusal : (bytes : List ℕ) (why other : Refusal) (pos place : Pos) → IsRefused bytes why pos → IsRefused bytes other place → (why ≡ other) × (pos ≡ place)
 same_refusal bytes why other pos place one two =

@@ -3,10 +3,9 @@ use Rattle.std.proofs.Common.{◌≡◌, ℕ, List, [], ◌∷◌, inl, inr, Boo
 use Rattle.std.specs.Prelude.{Option, Some}
 use Rattle.std.specs.List.{AllByRecursion, list_all, list_any}
 use Rattle.std.specs.Str.{bytes_eq}
-use Rattle.std.proofs.lemmas.Bool.{and_parts, false≢true}
+use Rattle.std.proofs.lemmas.Bool.{and_parts, false≢true, or_cases}
 use Rattle.std.proofs.lemmas.Slice.Eq.{bytes_eq-Decides}
 use Rattle.c_lexer.specs.Lookup.{lookup}
-use Rattle.c_lexer.proofs.Cases.{either}
 
 found_row : {A : Type 0} (P : List ℕ → A → Type 0) (key text : List ℕ) (value a : A) (rest : Option A) (b : Bool) → bytes_eq key text ≡ b → P key value → (rest ≡ Some a → P text a) → cond b (Some value) rest ≡ Some a → P text a
 found_row P key text value a rest true same p more h =
@@ -29,5 +28,5 @@ pub listed_true : (test : List ℕ → Bool) (rows : List (List ℕ)) (text : Li
 listed_true test [] text all h = absurd (false≢true h)
 listed_true test (row ∷ rows) text all h =
     let parts = and_parts (test row) (list_all test rows) all in
-    elim (either (bytes_eq row text) (list_any (λ row. bytes_eq row text) rows) h)
+    elim (or_cases (bytes_eq row text) (list_any (λ row. bytes_eq row text) rows) h)
     [ inl same ↦ subst (λ t. test t ≡ true) ((bytes_eq-Decides row text).0 same) parts.0 | inr later ↦ listed_true test rows text parts.1 later ]

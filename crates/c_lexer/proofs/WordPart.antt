@@ -1,20 +1,19 @@
 -- A run of letters, digits and `_` stands where it spells a token, and is refused where it spells none.
-use Rattle.std.proofs.Common.{◌≡◌, inl, inr, ℕ, ◌≤◌, List, [], ◌∷◌, ◌++◌, Bool, true, false, ◌==◌, ◌&&◌, length, take, refl, sym, ◌∙◌, ap, subst, arith}
+use Rattle.std.proofs.Common.{◌≡◌, ℕ, ◌≤◌, List, [], ◌∷◌, ◌++◌, Bool, true, false, ◌==◌, ◌&&◌, length, take, refl, sym, ◌∙◌, ap, subst, arith}
 use Rattle.std.proofs.lemmas.Bool.{and_parts, eqb-true, false≢true}
-use Rattle.std.proofs.Math.Seq.{take-append_seam}
 use Rattle.std.specs.Prelude.{slice_index}
 use Rattle.std.specs.List.{list_all, prefix_len}
-use Rattle.critical_table.specs.declared.refusal.Refusal.TheVariants.{Profile}
+use Rattle.critical_table.specs.declared.refusal.Refusal.TheVariants.{Profile, Literal, Unclosed, Directive}
 use Rattle.c_lexer.specs.declared.token.Body.{Body}
 use Rattle.c_lexer.specs.declared.token.Body.TheVariants as body
-use Rattle.c_lexer.specs.Bytes.{is_letter, is_word_byte}
+use Rattle.c_lexer.specs.Bytes.{is_letter, is_word_byte, is_quote}
 use Rattle.c_lexer.specs.Words.{is_outside}
 use Rattle.c_lexer.specs.Parts.{Part, White, Spelled, part_text, IsToken}
 use Rattle.c_lexer.specs.Rows.{IsFirstRow}
 use Rattle.c_lexer.specs.Lexing.{Stands}
-use Rattle.c_lexer.proofs.Runs.{run_whole, run_least}
+use Rattle.c_lexer.proofs.Runs.{front_taken, run_whole, run_least}
 use Rattle.c_lexer.proofs.TokenLaws.{outside_token}
-use Rattle.c_lexer.proofs.Leads.{Letter, is_quote, lead, Admits, letter_lead, longer_lead, admitted_at, literal_lead, unclosed_lead, directive_lead, no_row_of}
+use Rattle.c_lexer.proofs.Leads.{Letter, lead, Admits, letter_lead, longer_lead, admitted_at, no_fit, no_row}
 
 -- a whole run that begins with a letter, and is no L before a quote
 pub record IsRun (text rest : List ℕ) : Type 0 where
@@ -38,7 +37,7 @@ run_len : (text rest : List ℕ) → IsRun text rest → prefix_len is_word_byte
 run_len text rest run = run_whole is_word_byte text rest run.each run.ends
 
 run_taken : (text rest : List ℕ) → IsRun text rest → take (prefix_len is_word_byte (text ++ rest)) (text ++ rest) ≡ text
-run_taken text rest run = ap (λ n. take n (text ++ rest)) (run_len text rest run) ∙ take-append_seam text rest
+run_taken text rest run = front_taken _ text rest (run_len text rest run)
 
 longest_run : (bytes : List ℕ) (other : Part) (after : List ℕ) → Admits Letter other → bytes ≡ part_text other ++ after → length (part_text other) ≤ prefix_len is_word_byte bytes
 longest_run bytes (White text) after admits parts = absurd admits
@@ -52,10 +51,12 @@ word_stands fresh text rest token run is =
       longest = λ other after parts part.
           let longest = longest_run (text ++ rest) other after (admitted_at fresh (text ++ rest) Letter other after at parts part) parts in
           omega (arith, longest, run_len text rest run);
-      no_row = no_row_of fresh (text ++ rest) (λ fits. outside_token text token (ap is_outside (sym (run_taken text rest run)) ∙ fits) is)
-          (λ fits. elim (literal_lead fresh (text ++ rest) fits) [ inl e ↦ cc | inr e ↦ cc ])
-          (λ fits. elim (unclosed_lead fresh (text ++ rest) fits) [ inl e ↦ cc | inr e ↦ cc ])
-          (λ fits. let e = directive_lead fresh (text ++ rest) fits in cc);
+      no_row = no_row fresh (text ++ rest) (
+        λ fits. outside_token text token (ap is_outside (sym (run_taken text rest run)) ∙ fits) is,
+        no_fit fresh (text ++ rest) Literal at refl,
+        no_fit fresh (text ++ rest) Unclosed at refl,
+        no_fit fresh (text ++ rest) Directive at refl,
+      );
     }
 
 outside_run : (text rest : List ℕ) (outside : Bool) → is_outside text ≡ outside → IsRun text rest → ((token : Body) → IsToken text token → ⊥) → outside ≡ true
