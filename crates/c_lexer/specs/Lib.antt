@@ -3,7 +3,6 @@ pub mod Classes
 pub mod Lookup
 pub mod Words
 pub mod Marks
-pub mod ReadMark
 pub mod Comments
 pub mod ReadComment
 pub mod Directives

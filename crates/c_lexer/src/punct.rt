@@ -1,8 +1,7 @@
-ghost use Rattle.std.specs.Prelude.{◌≡◌, ℕ, List, ◌++◌, map, length, is_some, IfSome, IfNone};
+ghost use Rattle.std.specs.Prelude.{◌≡◌, IfSome, IfNone};
 ghost use Rattle.c_lexer.specs.Lookup.{lookup};
-ghost use Rattle.c_lexer.specs.Marks.{mark_text, marks, IsLongestMark};
+ghost use Rattle.c_lexer.specs.Marks.{mark_text, marks};
 ghost use Rattle.c_lexer.specs.ReadPart.{extends};
-ghost use Rattle.c_lexer.specs.ReadMark as spec;
 ghost use Rattle.c_lexer.specs.declared.punct.Punct.{Punct};
 
 use crate::table::lookup;
@@ -104,7 +103,7 @@ pub enum Punct {
     Comma,
 }
 
-/// Each punctuator and its spelling, longer ones first.
+/// Each punctuator and its spelling.
 const MARKS: [(&[u8], Punct); 46] = [
     (b"...", Punct::Ellipsis),
     (b"<<=", Punct::ShiftLeftAssign),
@@ -154,10 +153,18 @@ const MARKS: [(&[u8], Punct); 46] = [
     (b",", Punct::Comma),
 ];
 
-fn is_mark(text: &[u8]) -> bool
-    ensures { result ≡ is_some (lookup marks text.now) }
+fn read_mark(text: &[u8]) -> Option<Punct>
+    ensures { result ≡ lookup marks text.now }
 {
-    lookup(&MARKS, text).is_some()
+    lookup(&MARKS, text)
+}
+
+/// The punctuator that the whole text spells, if it spells one (6.4.6).
+pub(crate) fn mark_of(text: &[u8]) -> Option<Punct>
+    ensures found { IfSome result (λ mark. text.now ≡ mark_text mark) }
+    ensures none { IfNone result ((mark : Punct) → text.now ≡ mark_text mark → ⊥) }
+{
+    read_mark(text)
 }
 
 /// Whether the text and the byte behind it spell a punctuator.
@@ -165,37 +172,11 @@ fn is_mark(text: &[u8]) -> bool
 pub(crate) fn extends(text: &[u8], byte: u8) -> bool
     ensures { result ≡ extends text.now byte }
 {
-    match text {
-        [] => is_mark(&[byte]),
-        [first] => is_mark(&[*first, byte]),
-        [first, second] => is_mark(&[*first, *second, byte]),
-        _ => false,
-    }
-}
-
-fn find(mut rows: &[(&[u8], Punct)], bytes: &[u8]) -> Option<(Punct, usize)>
-    ensures { result ≡ spec.measured (spec.first_of (map (λ row. (row.0.now, row.1)) rows.entry.now) bytes.now) }
-{
-    while let [row, rest @ ..] = rows {
-        if bytes.starts_with(row.0) {
-            return Some((row.1, row.0.len()));
-        }
-        rows = rest;
-    }
-    None
-}
-
-#[tactic(auto, unfolding(crate::specs::ReadMark::mark_at))]
-fn read_mark(bytes: &[u8]) -> Option<(Punct, usize)>
-    ensures { result ≡ spec.mark_at bytes.now }
-{
-    find(&MARKS, bytes)
-}
-
-/// The longest punctuator at the front, and its length, if one stands there (6.4p4, 6.4.6).
-pub(crate) fn mark_at(bytes: &[u8]) -> Option<(Punct, usize)>
-    ensures found { IfSome result (λ found. IsLongestMark bytes.now found.0 found.1) }
-    ensures none { IfNone result ((mark : Punct) (after : List ℕ) → bytes.now ≡ mark_text mark ++ after → ⊥) }
-{
-    read_mark(bytes)
+    let longer = match text {
+        [] => read_mark(&[byte]),
+        [first] => read_mark(&[*first, byte]),
+        [first, second] => read_mark(&[*first, *second, byte]),
+        _ => None,
+    };
+    longer.is_some()
 }
