@@ -1,4 +1,4 @@
--- Which way a test went.
+-- Which way a test went, and what it tells apart.
 use Rattle.std.proofs.Common.{◌≡◌, ◌⊎◌, inl, inr, ℕ, Bool, true, false, ◌==◌, cond, refl, sym, ◌∙◌, ap}
 use Rattle.std.proofs.lemmas.Bool.{false≢true, ne_eqb}
 
