@@ -35,7 +35,7 @@ counted at end (token ∷ tokens) order = omega (arith, order.0, order.1, counte
 only_tokens : (bytes : List ℕ) (stream : Stream) → length bytes ≤ greatest_size → AreTokens bytes stream → AreOnlyTokens bytes stream
 only_tokens bytes stream few tokens =
     let order : AreInOrder 0 stream.tokens (length bytes) =
-        subst (λ ts. AreInOrder 0 ts (length bytes)) (sym tokens.tokens) (subst (AreInOrder 0 (tokens_of start tokens.parts)) (omega arith) (spans start tokens.parts bytes [] tokens.split)) in
+    subst (λ ts. AreInOrder 0 ts (length bytes)) (sym tokens.tokens) (subst (AreInOrder 0 (tokens_of start tokens.parts)) (omega arith) (spans start tokens.parts bytes [] tokens.split)) in
     record {
       few = few;
       tokens = tokens;

@@ -7,8 +7,7 @@ use Rattle.std.proofs.lemmas.List.Folds.{length-prefix_len}
 use Rattle.std.proofs.lemmas.Slice.Eq.{bytes_eq-Decides}
 use Rattle.std.proofs.Math.Seq.{take-append_seam, drop-append_seam}
 use Rattle.std.specs.Prelude.{Option, Some, None, IsTrue, ◌↔◌, not, nat_eq, codes}
-use Rattle.std.specs.List.{prefix_len, list_all, list_any, AllByRecursion}
-use Rattle.std.specs.Str.{bytes_eq}
+use Rattle.std.specs.List.{prefix_len, list_all}
 use Rattle.std.specs.Cmp.Lexicographic.{pointwise}
 use Rattle.c_lexer.specs.declared.bytes.Class.TheVariants as class
 use Rattle.c_lexer.specs.Bytes.{is_blank}
@@ -16,6 +15,7 @@ use Rattle.c_lexer.specs.Classes.{is_in}
 use Rattle.c_lexer.specs.Directives.{headers, is_header, IsInclude, IsDefine, IsMarker}
 use Rattle.c_lexer.specs.ReadComment.{past_quote}
 use Rattle.c_lexer.specs.ReadDirective.{stripped, on, unblank, all_blank, begins_blank, ends_include, is_include, ends_define, names_extension, is_define, ends_marker, is_marker}
+use Rattle.c_lexer.proofs.Tables.{listed_true}
 use Rattle.c_lexer.proofs.Cases.{chosen}
 use Rattle.c_lexer.proofs.Runs.{front_taken, front_dropped, run_all, run_whole}
 use Rattle.c_lexer.proofs.CommentLaws.{quote_sound, quote_full}
@@ -81,15 +81,11 @@ solid_ends : (last : List ℕ) → list_all is_blank last ≡ true → prefix_le
 solid_ends [] h = refl
 solid_ends (b ∷ last) h = ap (λ t. cond (not t) (1 + prefix_len (is_in class.Solid) last) 0) (and_parts (is_blank b) (list_all is_blank last) h).0
 
-pub among : (P : List ℕ → Type 0) (words : List (List ℕ)) (text : List ℕ) → AllByRecursion P words → list_any (λ word. bytes_eq word text) words ≡ true → P text
-among P [] text all h = absurd (false≢true h)
-among P (word ∷ words) text all h =
-    elim (or_cases (bytes_eq word text) (list_any (λ w. bytes_eq w text) words) h)
-    [ inl a ↦ subst P ((bytes_eq-Decides word text).0 a) all.0 | inr a ↦ among P words text all.1 a ]
-
 header_solid : (header last : List ℕ) → is_header header ≡ true → (list_all (is_in class.Solid) header ≡ true) × (prefix_len (is_in class.Blank) (header ++ last) ≡ 0)
 unfolding is_header
-header_solid header last h = among (λ t. (list_all (is_in class.Solid) t ≡ true) × (prefix_len (is_in class.Blank) (t ++ last) ≡ 0)) headers header ((refl, refl), ((refl, refl), ((refl, refl), ((refl, refl), ((refl, refl), ((refl, refl), ((refl, refl), ((refl, refl), ((refl, refl), tt))))))))) h
+header_solid header last h =
+    let both = and_parts _ _ (listed_true (λ t. list_all (is_in class.Solid) t && prefix_len (is_in class.Blank) (t ++ last) == 0) headers header refl h) in
+    (both.0, eqb-true _ 0 both.1)
 
 pub include_sound : (text : List ℕ) → is_include text ≡ true → IsInclude text
 unfolding is_include

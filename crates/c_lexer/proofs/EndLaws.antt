@@ -1,6 +1,7 @@
 -- What an open part is where it ends.
 use Rattle.std.proofs.Common.{◌≡◌, ◌⊎◌, inl, inr, ℕ, ◌+◌, ◌≤◌, List, [], ◌∷◌, ◌++◌, Bool, true, false, ◌==◌, ◌||◌, ◌&&◌, cond, length, refl, sym, ◌∙◌, ap, subst, arith, append_assoc, length-append}
 use Rattle.std.proofs.lemmas.Bool.{eqb-true, not-false}
+use Rattle.std.proofs.lemmas.Option.{none-some}
 use Rattle.std.proofs.lemmas.List.{append-nil}
 use Rattle.std.specs.Prelude.{◌≢◌, Some, None, is_some, not, codes, slice_index}
 use Rattle.std.specs.List.{list_all, prefix_len}
@@ -32,7 +33,6 @@ use Rattle.c_lexer.specs.ReadPart.{byte_of, goes_on_number, extends, first_of_cl
 use Rattle.c_lexer.specs.Reading.{Spells, IsLine, Ends}
 use Rattle.c_lexer.specs.Rows.{is_exponent, number_len, Fits, IsFirstRow}
 use Rattle.c_lexer.specs.Words.{word_of, is_outside}
-use Rattle.c_lexer.proofs.Cases.{none_found}
 use Rattle.c_lexer.proofs.WordLaws.{word_full}
 use Rattle.c_lexer.proofs.TokenLaws.{one_token}
 use Rattle.c_lexer.proofs.CommentLaws.{close_none}
@@ -67,7 +67,7 @@ refused fresh bytes why reason same other fits row =
 
 -- where a byte doesn't lead on, the test of it fails
 only_false : (test : Bool) (here : Mode) → only test here ≡ None → test ≡ false
-only_false true here stops = absurd (none_found (sym stops))
+only_false true here stops = absurd (none-some _ (sym stops))
 only_false false here stops = refl
 
 word_ends : (text rest : List ℕ) → Stops mode.Word text rest → prefix_len is_word_byte rest ≡ 0
@@ -89,9 +89,9 @@ word_end fresh text rest end is stops what =
 -- neither a letter nor a quote is next
 wide_tests : (word double single : Bool) → cond word (Some mode.Word) (option_map (λ quote. mode.Quoted quote false) (cond double (Some Double) (cond single (Some Single) None))) ≡ None
     → (word ≡ false) × ((double || single) ≡ false)
-wide_tests true double single stops = absurd (none_found (sym stops))
-wide_tests false true single stops = absurd (none_found (sym stops))
-wide_tests false false true stops = absurd (none_found (sym stops))
+wide_tests true double single stops = absurd (none-some _ (sym stops))
+wide_tests false true single stops = absurd (none-some _ (sym stops))
+wide_tests false false true stops = absurd (none-some _ (sym stops))
 wide_tests false false false stops = (refl, refl)
 
 wide_ends : (text rest : List ℕ) → Stops mode.Wide text rest → (prefix_len is_word_byte rest ≡ 0) × (is_quote (slice_index rest 0) ≡ false)
@@ -104,7 +104,7 @@ wide_ends text (byte ∷ after) stops =
 -- an L is a name
 wide_name : IsToken (codes "L") (body.Name (codes "L"))
 unfolding is_outside word_of
-wide_name = (refl, record { first = refl; each = refl; no_word = λ word is. none_found (ap word_of is ∙ word_full word); inside = refl })
+wide_name = (refl, record { first = refl; each = refl; no_word = λ word is. none-some _ (ap word_of is ∙ word_full word); inside = refl })
 
 wide_end : (fresh : Bool) (text rest : List ℕ) (end : Ending) → text ≡ codes "L" → Stops mode.Wide text rest → Spells Char text end → IsEnding fresh text rest end
 wide_end fresh text rest ending.White is stops what = absurd what
@@ -146,8 +146,8 @@ mark_end_at fresh mark text rest (ending.Token token) is at longest what =
     subst (λ t. Stands fresh (t ++ rest) (Spelled t token) rest) (sym is) (subst (λ b. Stands fresh (mark_text mark ++ rest) (Spelled (mark_text mark) b) rest) one (mark_stands fresh mark rest at longest))
 
 dot_tests : (digit point : Bool) → cond digit (Some (mode.Number false)) (cond point (Some mode.Dots) None) ≡ None → (digit ≡ false) × (point ≡ false)
-dot_tests true point stops = absurd (none_found (sym stops))
-dot_tests false true stops = absurd (none_found (sym stops))
+dot_tests true point stops = absurd (none-some _ (sym stops))
+dot_tests false true stops = absurd (none-some _ (sym stops))
 dot_tests false false stops = (refl, refl)
 
 dot_ends : (text rest : List ℕ) → Stops mode.Dot text rest → (is_ascii_digit (slice_index rest 0) ≡ false) × ((slice_index rest 0 == 46) ≡ false)
@@ -162,9 +162,9 @@ dot_end fresh text rest end is stops what =
 
 slash_tests : (slash star equal : Bool) → cond slash (Some mode.LineComment) (cond star (Some (mode.BlockComment false)) (cond equal (Some mode.Mark) None)) ≡ None
     → (slash ≡ false) × (star ≡ false) × (equal ≡ false)
-slash_tests true star equal stops = absurd (none_found (sym stops))
-slash_tests false true equal stops = absurd (none_found (sym stops))
-slash_tests false false true stops = absurd (none_found (sym stops))
+slash_tests true star equal stops = absurd (none-some _ (sym stops))
+slash_tests false true equal stops = absurd (none-some _ (sym stops))
+slash_tests false false true stops = absurd (none-some _ (sym stops))
 slash_tests false false false stops = (refl, refl, refl)
 
 slash_ends : (text rest : List ℕ) → Stops mode.Slash text rest → ((slice_index rest 0 == 47) ≡ false) × ((slice_index rest 0 == 42) ≡ false) × ((slice_index rest 0 == 61) ≡ false)
@@ -197,9 +197,9 @@ kind_of Double = inl refl
 -- a text between quotes stops only where its line does
 quoted_tests : (feed hidden end : Bool) (here there : Mode) → cond feed None (cond hidden (Some here) (cond end (Some mode.Quotation) (Some there))) ≡ None → feed ≡ true
 quoted_tests true hidden end here there stops = refl
-quoted_tests false true end here there stops = absurd (none_found (sym stops))
-quoted_tests false false true here there stops = absurd (none_found (sym stops))
-quoted_tests false false false here there stops = absurd (none_found (sym stops))
+quoted_tests false true end here there stops = absurd (none-some _ (sym stops))
+quoted_tests false false true here there stops = absurd (none-some _ (sym stops))
+quoted_tests false false false here there stops = absurd (none-some _ (sym stops))
 
 quoted_ends : (quote : Quote) (hidden : Bool) (text rest : List ℕ) → Stops (mode.Quoted quote hidden) text rest → past_quote (byte_of quote) hidden rest ≡ None
 unfolding next
@@ -244,7 +244,7 @@ line_comment_end fresh text rest end is stops what = subst (IsEnding fresh text 
 open_end : (star : Bool) (text rest : List ℕ) → Stops (mode.BlockComment star) text rest → rest ≡ []
 unfolding next
 open_end star text [] stops = refl
-open_end star text (byte ∷ after) stops = absurd (none_found (sym stops))
+open_end star text (byte ∷ after) stops = absurd (none-some _ (sym stops))
 
 never_closed : (star : Bool) → past_star star [] ≡ None
 never_closed true = refl

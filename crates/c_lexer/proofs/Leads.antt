@@ -20,10 +20,11 @@ use Rattle.c_lexer.specs.Comments.{IsBlockComment, IsLineComment}
 use Rattle.c_lexer.specs.Directives.{IsDirective}
 use Rattle.c_lexer.specs.Parts.{Part, White, Spelled, part_text, IsPart, IsWhite}
 use Rattle.c_lexer.specs.Rows.{begins_number, NoCharacter, NoLiteral, NeverEnds, Fits, IsFirstRow}
+use Rattle.c_lexer.proofs.MarkLaws.{mark_full}
 use Rattle.c_lexer.proofs.Cases.{other_byte}
 use Rattle.c_lexer.proofs.Tables.{lookup_true, listed_true}
 use Rattle.c_lexer.proofs.WordLaws.{word_full}
-use Rattle.c_lexer.proofs.TokenLaws.{letter_no_digit, mark_full, number_first}
+use Rattle.c_lexer.proofs.TokenLaws.{letter_no_digit, number_first}
 
 -- a quote, or L and a quote; a letter; a digit, or a point and a digit; what begins a comment; a #; one of the six bytes; none of these
 pub data Lead : Type 0 where

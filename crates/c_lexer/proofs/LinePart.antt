@@ -15,7 +15,7 @@ use Rattle.c_lexer.specs.Rows.{IsFirstRow}
 use Rattle.c_lexer.specs.Lexing.{Stands}
 use Rattle.c_lexer.proofs.Cases.{other_byte}
 use Rattle.c_lexer.proofs.Runs.{all_weaker, all_joined, front_taken, run_whole, run_least, line_ends}
-use Rattle.c_lexer.proofs.DirectiveLaws.{among}
+use Rattle.c_lexer.proofs.Tables.{listed_true}
 use Rattle.c_lexer.proofs.Leads.{Hash, Space, white_lead, hash_lead, Admits, admitted_at, no_fit, char_first, no_row}
 
 length_at_space : (part : Part) → Admits Space part → length (part_text part) ≡ 1
@@ -43,7 +43,7 @@ inner_line quote false (byte ∷ bytes) inside = and_from _ _ (ap not (ne_eqb by
 
 header_line : (header : List ℕ) → is_header header ≡ true → list_all (is_in Line) header ≡ true
 unfolding is_header
-header_line header known = among (λ t. list_all (is_in Line) t ≡ true) headers header (refl, (refl, (refl, (refl, (refl, (refl, (refl, (refl, (refl, tt))))))))) known
+header_line header known = listed_true (list_all (is_in Line)) headers header refl known
 
 blank_line : (text : List ℕ) → list_all is_blank text ≡ true → list_all (is_in Line) text ≡ true
 blank_line text all = feedless is_blank text refl all

@@ -1,6 +1,6 @@
 -- What the front of a mark is, and where only a mark may begin.
 use Rattle.std.proofs.Common.{◌≡◌, inl, inr, ℕ, zero, suc, ◌<◌, ◌≤◌, List, [], ◌∷◌, ◌++◌, Bool, true, false, ◌==◌, ◌||◌, ◌&&◌, cond, length, take, refl, sym, ◌∙◌, ap, arith}
-use Rattle.std.proofs.lemmas.Bool.{and_parts, cases_lt, leb-true, eqb-true, eq-eqb, false≢true}
+use Rattle.std.proofs.lemmas.Bool.{and_parts, cases_lt, leb-true, eqb-true, eq-eqb, false≢true, ne_eqb, not-true, or_cases}
 use Rattle.std.specs.Prelude.{◌≢◌, is_some, not, nat_le, slice_index}
 use Rattle.std.specs.List.{list_all}
 use Rattle.std.specs.Char.{is_ascii_digit}
@@ -9,10 +9,8 @@ use Rattle.c_lexer.specs.declared.punct.Punct.TheVariants as p
 use Rattle.c_lexer.specs.Bytes.{is_letter, is_white, is_quote}
 use Rattle.c_lexer.specs.Lookup.{lookup}
 use Rattle.c_lexer.specs.Marks.{mark_text, marks}
-use Rattle.c_lexer.proofs.Cases.{either, not_false, neq-eqb}
 use Rattle.c_lexer.proofs.Tables.{lookup_true}
-use Rattle.c_lexer.proofs.MarkLaws.{mark_short}
-use Rattle.c_lexer.proofs.TokenLaws.{mark_full}
+use Rattle.c_lexer.proofs.MarkLaws.{mark_full, mark_short}
 use Rattle.c_lexer.proofs.Leads.{Hash, Other, lead}
 
 abbrev is_mark : List ℕ → Bool
@@ -36,7 +34,7 @@ mark_long mark =
 -- a byte behind a mark that makes none with it makes no longer one
 longer_one : (a byte x y : ℕ) (o : List ℕ) → (a ≡ 46 → ⊥) → is_mark (a ∷ byte ∷ []) ≡ false → has_fronts (x ∷ y ∷ o) ≡ true → a ≡ x → byte ≡ y → ⊥
 longer_one a byte x y o other no_more fronts first second =
-    elim (either (x == 46 && y == 46) (is_mark (x ∷ y ∷ []) && is_mark (take 3 (x ∷ y ∷ o))) fronts) [
+    elim (or_cases (x == 46 && y == 46) (is_mark (x ∷ y ∷ []) && is_mark (take 3 (x ∷ y ∷ o))) fronts) [
       | inl points ↦ other (first ∙ eqb-true x 46 (and_parts (x == 46) (y == 46) points).0)
       | inr mark ↦
           let both = and_parts (is_mark (x ∷ y ∷ [])) (is_mark (take 3 (x ∷ y ∷ o))) mark in
@@ -45,7 +43,7 @@ longer_one a byte x y o other no_more fronts first second =
 
 longer_two : (a b byte x y z : ℕ) (o : List ℕ) → is_mark (a ∷ b ∷ []) ≡ true → is_mark (a ∷ b ∷ byte ∷ []) ≡ false → has_fronts (x ∷ y ∷ z ∷ o) ≡ true → a ∷ b ∷ byte ∷ [] ≡ x ∷ y ∷ z ∷ [] → ⊥
 longer_two a b byte x y z o is no_more fronts same =
-    elim (either (x == 46 && y == 46) (is_mark (x ∷ y ∷ []) && is_mark (x ∷ y ∷ z ∷ [])) fronts) [
+    elim (or_cases (x == 46 && y == 46) (is_mark (x ∷ y ∷ []) && is_mark (x ∷ y ∷ z ∷ [])) fronts) [
       | inl points ↦
           let both = and_parts (x == 46) (y == 46) points in
           let first : a ≡ 46 = (let e = eqb-true x 46 both.0 in cc) in
@@ -95,9 +93,9 @@ still_there (x ∷ text) after (suc place) some = still_there text after place s
 single : (first place byte : ℕ) (rest text after : List ℕ) → goes_on_with first place byte text ≡ true → 0 < byte → (slice_index (first ∷ rest) place == byte) ≡ false → first ∷ rest ≡ text ++ after → length text ≤ 1
 single first place byte rest [] after goes some not_there same = omega arith
 single first place byte rest (x ∷ text) after goes some not_there same =
-    elim (either (not (x == first) || nat_le (length (x ∷ text)) 1) (slice_index (x ∷ text) place == byte) goes) [
-      | inl a ↦ elim (either (not (x == first)) (nat_le (length (x ∷ text)) 1) a)
-          [ inl other ↦ absurd (false≢true (sym (not_false (x == first) other) ∙ eq-eqb x first (cc))) | inr short ↦ leb-true (length (x ∷ text)) 1 short ]
+    elim (or_cases (not (x == first) || nat_le (length (x ∷ text)) 1) (slice_index (x ∷ text) place == byte) goes) [
+      | inl a ↦ elim (or_cases (not (x == first)) (nat_le (length (x ∷ text)) 1) a)
+          [ inl other ↦ absurd (false≢true (sym (not-true (x == first) other) ∙ eq-eqb x first (cc))) | inr short ↦ leb-true (length (x ∷ text)) 1 short ]
       | inr there ↦
           let at = eqb-true (slice_index (x ∷ text) place) byte there in
           let still = still_there (x ∷ text) after place (omega (arith, at, some)) in
@@ -132,7 +130,7 @@ slash_lead rest slash star = rw (slash, star) refl
 pub plain_lead : (byte : ℕ) (rest : List ℕ) → is_quote byte ≡ false → (byte == 46) ≡ false → (byte == 47) ≡ false → is_white byte ≡ false → is_letter byte ≡ false → is_ascii_digit byte ≡ false → lead (byte ∷ rest) ≡ cond (byte == 35) Hash Other
 unfolding lead
 plain_lead byte rest quote point slash white letter digit =
-    rw (quote, neq-eqb byte 76 (λ e. false≢true (sym letter ∙ ap is_letter e)), letter, digit, point, slash, white) refl
+    rw (quote, ne_eqb byte 76 (λ e. false≢true (sym letter ∙ ap is_letter e)), letter, digit, point, slash, white) refl
 
 no_front : (byte : ℕ) (rest text after : List ℕ) → is_mark (byte ∷ []) ≡ false → is_mark (take 1 text) ≡ true → byte ∷ rest ≡ text ++ after → ⊥
 no_front byte rest [] after none is same = false≢true is

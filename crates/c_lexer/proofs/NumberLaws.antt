@@ -15,7 +15,7 @@ use Rattle.c_lexer.specs.Classes.{is_in}
 use Rattle.c_lexer.specs.Lookup.{lookup}
 use Rattle.c_lexer.specs.Numbers.{radix, digits_of, is_decimal, suffixes, IsPrefix, IsFirst, IsConstant, IsNumber}
 use Rattle.c_lexer.specs.ReadNumber.{value_of, with_suffix, with_value, constant, number_of}
-use Rattle.c_lexer.proofs.Tables.{lookup_sound}
+use Rattle.c_lexer.proofs.Tables.{lookup_true}
 use Rattle.c_lexer.proofs.Values.{small_enough}
 use Rattle.c_lexer.proofs.Cases.{chosen}
 use Rattle.c_lexer.proofs.Runs.{run_all, run_whole}
@@ -69,9 +69,9 @@ constant_sound base text number h =
 
 -- no suffix begins with a digit
 suffix_ends : (base : Base) (suffix : List ℕ) (s : Bool × ℕ) → lookup suffixes suffix ≡ Some s → prefix_len (is_in (digits_of base)) suffix ≡ 0
-suffix_ends Decimal suffix s h = lookup_sound (λ t x. prefix_len (is_in (digits_of Decimal)) t ≡ 0) suffixes suffix s (refl, (refl, (refl, (refl, (refl, (refl, (refl, (refl, (refl, (refl, (refl, (refl, (refl, (refl, (refl, (refl, (refl, (refl, (refl, (refl, (refl, (refl, (refl, tt))))))))))))))))))))))) h
-suffix_ends Octal suffix s h = lookup_sound (λ t x. prefix_len (is_in (digits_of Octal)) t ≡ 0) suffixes suffix s (refl, (refl, (refl, (refl, (refl, (refl, (refl, (refl, (refl, (refl, (refl, (refl, (refl, (refl, (refl, (refl, (refl, (refl, (refl, (refl, (refl, (refl, (refl, tt))))))))))))))))))))))) h
-suffix_ends Hexadecimal suffix s h = lookup_sound (λ t x. prefix_len (is_in (digits_of Hexadecimal)) t ≡ 0) suffixes suffix s (refl, (refl, (refl, (refl, (refl, (refl, (refl, (refl, (refl, (refl, (refl, (refl, (refl, (refl, (refl, (refl, (refl, (refl, (refl, (refl, (refl, (refl, (refl, tt))))))))))))))))))))))) h
+suffix_ends Decimal suffix s h = eqb-true _ 0 (lookup_true (λ t. prefix_len (is_in (digits_of Decimal)) t == 0) suffixes suffix s refl h)
+suffix_ends Octal suffix s h = eqb-true _ 0 (lookup_true (λ t. prefix_len (is_in (digits_of Octal)) t == 0) suffixes suffix s refl h)
+suffix_ends Hexadecimal suffix s h = eqb-true _ 0 (lookup_true (λ t. prefix_len (is_in (digits_of Hexadecimal)) t == 0) suffixes suffix s refl h)
 
 assembled : (base : Base) (n : ℕ) (digits suffix : List ℕ) (number : Number) → (n == 0) ≡ false → Read base digits suffix number → cond (n == 0) None (with_value base (value_of (radix base) digits) suffix) ≡ Some number
 assembled base n digits suffix number some r = rw (some, small_enough (radix base) digits r.fits, r.ending, ← r.value, ← r.notation) refl

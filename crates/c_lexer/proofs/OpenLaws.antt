@@ -1,6 +1,6 @@
 -- A first byte opens a part, and a byte that goes on with a part leaves it open.
 use Rattle.std.proofs.Common.{◌≡◌, inl, inr, ℕ, ◌+◌, ◌<◌, List, [], ◌∷◌, ◌++◌, Bool, true, false, ◌==◌, ◌&&◌, cond, length, refl, sym, ◌∙◌, ap, subst, arith, append_assoc, length-append}
-use Rattle.std.proofs.lemmas.Bool.{and_parts, and_from, or_left, eqb-true, eqb-false, cond-true, cond-false, cond_both, false≢true}
+use Rattle.std.proofs.lemmas.Bool.{and_parts, and_from, or_left, eqb-true, eqb-false, cond-true, cond-false, cond_both, false≢true, false_from_ne_true}
 use Rattle.std.proofs.lemmas.List.Folds.{list_all-append}
 use Rattle.std.specs.Prelude.{Option, Some, None, is_some, IfSome, codes, not}
 use Rattle.std.specs.List.{list_all}
@@ -24,7 +24,6 @@ use Rattle.c_lexer.specs.Open.{IsOpenWord, IsOpenNumber, IsOpenMark, IsOpenQuote
 use Rattle.c_lexer.specs.ReadComment.{past_close, past_quote}
 use Rattle.c_lexer.specs.ReadPart.{byte_of, quote_of, goes_on_number, extends, first_of_class, first, next_wide, next_dot, next_slash, next_quoted, next_comment, only, next}
 use Rattle.c_lexer.specs.Rows.{is_exponent, number_len, begins_number}
-use Rattle.c_lexer.proofs.Cases.{not_true}
 use Rattle.c_lexer.proofs.CommentLaws.{quote_sound, close_sound}
 use Rattle.c_lexer.proofs.Leads.{may_be_mark, mark_may}
 use Rattle.c_lexer.proofs.MarkLaws.{right_rows}
@@ -118,7 +117,7 @@ number_more sign text byte is on = record {
 }
 
 digit_no_exponent : (byte : ℕ) → is_ascii_digit byte ≡ true → is_exponent byte ≡ false
-digit_no_exponent byte digit = not_true (is_exponent byte) (λ exponent. grind (arith, digit, exponent))
+digit_no_exponent byte digit = false_from_ne_true (is_exponent byte) (λ exponent. grind (arith, digit, exponent))
 
 digit_opens : (byte : ℕ) → is_ascii_digit byte ≡ true → IsOpenNumber false (byte ∷ [])
 digit_opens byte digit = record { begins = λ rest. or_left _ _ digit; goes_on = λ rest. rw (digit_word Decimal byte digit, digit_no_exponent byte digit) refl }

@@ -124,7 +124,7 @@ gives_back ahead r after bytes none at stops read parted =
     let is : after ≡ given_back r (46 ∷ []) 46 = parted (46 ∷ []) 46 points in
     let then = given_back r (46 ∷ []) 46 in
     let whole = as_read ahead then bytes none (spelled_closed ahead r then bytes (46 ∷ []) (body.Mark p.Dot) s refl refl refl
-        (λ rest follows. subst (λ t. Stands r.place.fresh (t ++ rest) (Spelled (46 ∷ []) (body.Mark p.Dot)) (46 ∷ rest)) (sym points) (point_stands r.place.fresh rest (stops rest follows)))) in
+    (λ rest follows. subst (λ t. Stands r.place.fresh (t ++ rest) (Spelled (46 ∷ []) (body.Mark p.Dot)) (46 ∷ rest)) (sym points) (point_stands r.place.fresh rest (stops rest follows)))) in
     (subst (λ x. IsRead ahead x bytes) (sym is) whole, ap (λ (x : Reading). x.refused) is ∙ none, ap (λ (x : Reading). x.mode) is)
 
 -- nothing is open at the end

@@ -1,26 +1,14 @@
 -- The token that a whole text spells.
-use Rattle.std.proofs.Common.{◌≡◌, ℕ, ◌≤◌, List, [], ◌++◌, true, false, ◌&&◌, length, drop, sym, ◌∙◌, ap, arith, append-nil, length-append}
+use Rattle.std.proofs.Common.{◌≡◌, ℕ, List, true, false, ◌&&◌, sym, ◌∙◌, ap}
 use Rattle.std.proofs.lemmas.Bool.{and_parts, and_from, false≢true, not-true}
-use Rattle.std.proofs.lemmas.List.{drop_all}
 use Rattle.std.specs.Prelude.{slice_index, not}
 use Rattle.std.specs.List.{list_all}
-use Rattle.c_lexer.specs.declared.punct.Punct.{Punct}
 use Rattle.c_lexer.specs.declared.word.Word.{Word}
 use Rattle.c_lexer.specs.declared.token.Body.{Body}
 use Rattle.c_lexer.specs.declared.token.Body.TheVariants as body
 use Rattle.c_lexer.specs.Bytes.{is_letter, is_word_byte}
-use Rattle.c_lexer.specs.Marks.{mark_text, IsLongestMark}
 use Rattle.c_lexer.specs.Words.{word_text, is_outside}
 use Rattle.c_lexer.specs.Parts.{IsName, IsToken, IsNoOther}
-
-pub mark_whole : (text : List ℕ) (mark : Punct) (count : ℕ) → IsLongestMark text mark count → count ≡ length text → text ≡ mark_text mark
-mark_whole text mark count m all =
-    m.front ∙ (ap (λ t. mark_text mark ++ t) (drop_all count text (omega (arith, all))) ∙ append-nil (mark_text mark))
-
-pub mark_part : (text : List ℕ) (mark : Punct) (count : ℕ) → IsLongestMark text mark count → (count ≡ length text → ⊥) → (other : Punct) → text ≡ mark_text other → ⊥
-mark_part text mark count m part other is =
-    let long : length (mark_text other) ≤ count = m.longest other [] (is ∙ sym (append-nil (mark_text other))) in
-    part (omega (arith, long, ap length is, ap length m.front, length-append (mark_text mark) (drop count text), m.count_is))
 
 pub name_from : (text : List ℕ) → (is_letter (slice_index text 0) && (list_all is_word_byte text && not (is_outside text))) ≡ true → ((word : Word) → text ≡ word_text word → ⊥) → IsName text
 name_from text h none =

@@ -14,8 +14,9 @@ use Rattle.c_lexer.specs.Comments.{IsBlockComment, IsLineComment}
 use Rattle.c_lexer.specs.Parts.{Part, White, Spelled, part_text, IsToken, IsWhite, IsPart}
 use Rattle.c_lexer.specs.Rows.{IsFirstRow}
 use Rattle.c_lexer.specs.Lexing.{start, place_behind, place_after, tokens_of, Stands, Splits, AreTokens, IsRefused}
+use Rattle.c_lexer.proofs.MarkLaws.{mark_full}
 use Rattle.c_lexer.proofs.Runs.{front_taken, front_dropped}
-use Rattle.c_lexer.proofs.TokenLaws.{mark_full, one_token}
+use Rattle.c_lexer.proofs.TokenLaws.{one_token}
 use Rattle.c_lexer.proofs.Leads.{Lead, Quoted, Letter, Digit, Comment, Hash, Space, Other, lead, Admits, admitted}
 use Rattle.c_lexer.proofs.MarkPart.{mark_at_other}
 

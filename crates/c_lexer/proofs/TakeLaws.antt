@@ -1,6 +1,7 @@
 -- What a reader knows after one byte more, and at the end.
 use Rattle.std.proofs.Common.{◌≡◌, ◌⊎◌, inl, inr, ℕ, ◌==◌, ◌&&◌, List, [], ◌∷◌, ◌++◌, Bool, true, false, refl, sym, ◌∙◌, ap, subst}
-use Rattle.std.proofs.lemmas.Bool.{eqb-true, eq-eqb, false≢true}
+use Rattle.std.proofs.lemmas.Bool.{eqb-true, eq-eqb, false≢true, not-true}
+use Rattle.std.proofs.lemmas.Option.{none-some}
 use Rattle.std.specs.Prelude.{Option, Some, None}
 use Rattle.critical_table.specs.declared.refusal.Refusal.{Refusal}
 use Rattle.critical_table.specs.declared.pos.Pos.{Pos}
@@ -10,7 +11,7 @@ use Rattle.c_lexer.specs.declared.mode.Mode.{Mode}
 use Rattle.c_lexer.specs.declared.mode.Mode.TheVariants as mode
 use Rattle.c_lexer.specs.ReadPart.{next, only, is_dots, is_other}
 use Rattle.c_lexer.specs.Reading.{Reading, Ahead, Anything, Byte, End, Follows, IsRead, Closes, went_on, after_ending, next_part, BeginsOr, IsParted, is_pair, ahead_of}
-use Rattle.c_lexer.proofs.Cases.{none_found, not_false, not_is_false}
+use Rattle.c_lexer.proofs.Cases.{not_is_false}
 use Rattle.c_lexer.proofs.EndLaws.{Stops}
 use Rattle.c_lexer.proofs.ReaderLaws.{closes, went, begun, stays, gives_back}
 
@@ -39,7 +40,7 @@ closed ahead (Some here) before after bytes at none stops read c = closes ahead 
 begins_or : (found : Option (Refusal × Pos)) (mid after : Reading) (byte : ℕ) (bytes : List ℕ) → mid.refused ≡ found
     → ((mid.refused ≡ None) × (mid.mode ≡ None)) ⊎ ((f : Refusal × Pos) × (mid.refused ≡ Some f)) → BeginsOr found mid byte after → IsRead (Byte byte) mid bytes → IsRead Anything after (bytes ++ (byte ∷ []))
 begins_or None mid after byte bytes at (inl e) b read = subst (λ r. IsRead Anything r (bytes ++ (byte ∷ []))) (sym b) (begun mid byte bytes e.0 e.1 read)
-begins_or None mid after byte bytes at (inr e) b read = absurd (none_found (sym at ∙ e.1))
+begins_or None mid after byte bytes at (inr e) b read = absurd (none-some _ (sym at ∙ e.1))
 begins_or (Some f) mid after byte bytes at e b read = subst (λ r. IsRead Anything r (bytes ++ (byte ∷ []))) (sym b) (stays mid f byte bytes at read)
 
 -- a byte that doesn't go on with what is open ends it
@@ -50,7 +51,7 @@ stops_byte (Some here) text byte point leads = (
   λ is.
       let third : byte ≡ 46 = point (ap Some is) in
       let more : next mode.Dots text byte ≡ Some mode.Mark = ap (λ b. only b mode.Mark) (eq-eqb byte 46 third) in
-      none_found (sym leads ∙ (ap (λ m. next m text byte) is ∙ more)),
+      none-some _ (sym leads ∙ (ap (λ m. next m text byte) is ∙ more)),
   λ rest follows. subst (Stops here text) (sym follows.1) leads,
 )
 
@@ -64,14 +65,14 @@ turned before mid after byte bytes none point leads c b read =
 -- the byte goes on with what is open
 pub followed : (open_part : Option Mode) (before : Reading) (then : Mode) (byte : ℕ) (bytes : List ℕ) → before.mode ≡ open_part → before.refused ≡ None → next_part open_part before.text byte ≡ Some then → IsRead (Byte byte) before bytes
     → IsRead Anything (went_on before then byte) (bytes ++ (byte ∷ []))
-followed None before then byte bytes at none leads read = absurd (none_found leads)
+followed None before then byte bytes at none leads read = absurd (none-some _ leads)
 followed (Some here) before then byte bytes at none leads read = went before here then byte bytes none at leads read
 
 -- two points end where no third comes
 stops_points : (coming : Option ℕ) (rest : List ℕ) → is_other coming ≡ true → Follows (ahead_of coming) rest → Stops mode.Dots (46 ∷ 46 ∷ []) rest
 unfolding next
 stops_points None rest other follows = subst (Stops mode.Dots (46 ∷ 46 ∷ [])) (sym follows) tt
-stops_points (Some byte) rest other follows = subst (Stops mode.Dots (46 ∷ 46 ∷ [])) (sym follows.1) (ap (λ b. only b mode.Mark) (not_false (byte == 46) other))
+stops_points (Some byte) rest other follows = subst (Stops mode.Dots (46 ∷ 46 ∷ [])) (sym follows.1) (ap (λ b. only b mode.Mark) (not-true (byte == 46) other))
 
 third_point : (coming : Option ℕ) → is_other coming ≡ false → coming ≡ Some 46
 third_point None other = absurd (false≢true (sym other))
@@ -105,24 +106,22 @@ dots_only mode.Alien is = absurd (false≢true is)
 parts_open : (coming : Option ℕ) (here : Mode) (t : Bool) (before after : Reading) (bytes : List ℕ) → before.mode ≡ Some here → is_dots here ≡ t → before.refused ≡ None → IsParted (t && is_other coming) before after
     → IsRead (ahead_of coming) before bytes → IsRead (ahead_of coming) after bytes × (after.refused ≡ None) × (after.mode ≡ Some mode.Dots → coming ≡ Some 46)
 parts_open coming here true before after bytes at dots none parted read = parts_pair coming (is_other coming) before after bytes (at ∙ ap Some (dots_only here dots)) refl none parted read
-parts_open coming here false before after bytes at dots none parted read =
-    (
-      subst (λ r. IsRead (ahead_of coming) r bytes) (sym parted) read,
-      ap (λ (r : Reading). r.refused) parted ∙ none,
-      λ points.
-          let e : Some here ≡ Some mode.Dots = sym at ∙ (sym (ap (λ (r : Reading). r.mode) parted) ∙ points) in
-          let is : here ≡ mode.Dots = cc in
-          absurd (false≢true (sym dots ∙ ap is_dots is)),
-    )
+parts_open coming here false before after bytes at dots none parted read = (
+  subst (λ r. IsRead (ahead_of coming) r bytes) (sym parted) read,
+  ap (λ (r : Reading). r.refused) parted ∙ none,
+  λ points.
+      let e : Some here ≡ Some mode.Dots = sym at ∙ (sym (ap (λ (r : Reading). r.mode) parted) ∙ points) in
+      let is : here ≡ mode.Dots = cc in
+      absurd (false≢true (sym dots ∙ ap is_dots is)),
+)
 
 pub parts : (coming : Option ℕ) (open_part : Option Mode) (before after : Reading) (bytes : List ℕ) → before.mode ≡ open_part → before.refused ≡ None → IsParted (is_pair open_part coming) before after
     → IsRead (ahead_of coming) before bytes → IsRead (ahead_of coming) after bytes × (after.refused ≡ None) × (after.mode ≡ Some mode.Dots → coming ≡ Some 46)
-parts coming None before after bytes at none parted read =
-    (
-      subst (λ r. IsRead (ahead_of coming) r bytes) (sym parted) read,
-      ap (λ (r : Reading). r.refused) parted ∙ none,
-      λ points. let e : None ≡ Some mode.Dots = sym at ∙ (sym (ap (λ (r : Reading). r.mode) parted) ∙ points) in absurd (none_found e),
-    )
+parts coming None before after bytes at none parted read = (
+  subst (λ r. IsRead (ahead_of coming) r bytes) (sym parted) read,
+  ap (λ (r : Reading). r.refused) parted ∙ none,
+  λ points. let e : None ≡ Some mode.Dots = sym at ∙ (sym (ap (λ (r : Reading). r.mode) parted) ∙ points) in absurd (none-some _ e),
+)
 parts coming (Some here) before after bytes at none parted read = parts_open coming here (is_dots here) before after bytes at refl none parted read
 
 stops_end : (open_part : Option Mode) (text : List ℕ) → (open_part ≡ Some mode.Dots → ⊥) → StopsAt open_part text End
@@ -137,4 +136,4 @@ last_closed before after bytes none point c read = closed End before.mode before
 -- nothing is open where nothing is refused
 pub nothing_open : (before after : Reading) → before.refused ≡ None → Closes before.mode before after → after.refused ≡ None → after.mode ≡ None
 nothing_open before after none c whole =
-    elim (closed_mode before.mode before after refl c none) [ inl e ↦ e.1 | inr e ↦ absurd (none_found (sym whole ∙ e.1)) ]
+    elim (closed_mode before.mode before after refl c none) [ inl e ↦ e.1 | inr e ↦ absurd (none-some _ (sym whole ∙ e.1)) ]

@@ -6,7 +6,6 @@ use Rattle.std.specs.List.{list_all}
 use Rattle.std.specs.Char.{is_ascii_digit}
 use Rattle.c_lexer.specs.declared.word.Word.{Word}
 use Rattle.c_lexer.specs.declared.punct.Punct.{Punct}
-use Rattle.c_lexer.specs.declared.punct.Punct.TheVariants as p
 use Rattle.c_lexer.specs.declared.number.Base.{Base}
 use Rattle.c_lexer.specs.declared.number.Base.TheVariants.{Decimal, Octal, Hexadecimal}
 use Rattle.c_lexer.specs.declared.number.Number.{Number}
@@ -23,6 +22,7 @@ use Rattle.c_lexer.specs.ReadCharacters.{character_of, literal_of}
 use Rattle.c_lexer.specs.Parts.{IsName, IsToken}
 use Rattle.c_lexer.proofs.Cases.{other_byte}
 use Rattle.c_lexer.proofs.Tables.{lookup_true, listed_true}
+use Rattle.c_lexer.proofs.MarkLaws.{mark_full}
 use Rattle.c_lexer.proofs.WordLaws.{word_sound, word_full}
 use Rattle.c_lexer.proofs.NumberLaws.{number_full}
 use Rattle.c_lexer.proofs.CharacterLaws.{character_full, literal_full}
@@ -47,54 +47,6 @@ tag_of (body.Mark mark) = 5
 word_tag : (word : Word) → tag (word_text word) ≡ 0
 unfolding tag quoted word_of
 word_tag word = eqb-true (tag (word_text word)) 0 (lookup_true (λ t. tag t == 0) words (word_text word) word refl (word_full word))
-
-pub mark_full : (mark : Punct) → lookup marks (mark_text mark) ≡ Some mark
-mark_full p.OpenBracket = refl
-mark_full p.CloseBracket = refl
-mark_full p.OpenParen = refl
-mark_full p.CloseParen = refl
-mark_full p.OpenBrace = refl
-mark_full p.CloseBrace = refl
-mark_full p.Dot = refl
-mark_full p.Arrow = refl
-mark_full p.Increment = refl
-mark_full p.Decrement = refl
-mark_full p.Ampersand = refl
-mark_full p.Star = refl
-mark_full p.Plus = refl
-mark_full p.Minus = refl
-mark_full p.Tilde = refl
-mark_full p.Exclamation = refl
-mark_full p.Slash = refl
-mark_full p.Percent = refl
-mark_full p.ShiftLeft = refl
-mark_full p.ShiftRight = refl
-mark_full p.Less = refl
-mark_full p.Greater = refl
-mark_full p.LessEqual = refl
-mark_full p.GreaterEqual = refl
-mark_full p.Equal = refl
-mark_full p.NotEqual = refl
-mark_full p.Caret = refl
-mark_full p.Bar = refl
-mark_full p.AndAnd = refl
-mark_full p.OrOr = refl
-mark_full p.Question = refl
-mark_full p.Colon = refl
-mark_full p.Semicolon = refl
-mark_full p.Ellipsis = refl
-mark_full p.Assign = refl
-mark_full p.StarAssign = refl
-mark_full p.SlashAssign = refl
-mark_full p.PercentAssign = refl
-mark_full p.PlusAssign = refl
-mark_full p.MinusAssign = refl
-mark_full p.ShiftLeftAssign = refl
-mark_full p.ShiftRightAssign = refl
-mark_full p.AmpersandAssign = refl
-mark_full p.CaretAssign = refl
-mark_full p.BarAssign = refl
-mark_full p.Comma = refl
 
 mark_tag : (mark : Punct) → tag (mark_text mark) ≡ 5
 unfolding tag quoted word_of

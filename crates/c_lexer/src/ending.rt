@@ -42,7 +42,11 @@ pub(crate) fn end_of(alloc: Global, mode: Mode, text: &[u8]) -> Result<Ending, A
     match mode {
         Mode::Word => spelled(alloc, text, Refusal::Profile),
         Mode::Number(_) | Mode::Quotation => spelled(alloc, text, Refusal::Literal),
-        Mode::Wide | Mode::Dot | Mode::Dots | Mode::Slash | Mode::Mark => spelled(alloc, text, Refusal::Char),
+        Mode::Wide | Mode::Dot | Mode::Dots | Mode::Slash | Mode::Mark => spelled(
+            alloc,
+            text,
+            Refusal::Char,
+        ),
         Mode::Quoted(_, _) | Mode::BlockComment(_) => Ok(Ending::Refused(Refusal::Unclosed)),
         Mode::LineComment | Mode::Space => Ok(Ending::White),
         Mode::Directive => Ok(line(text)),

@@ -2,7 +2,7 @@ ghost use Rattle.std.specs.Prelude.{◌≡◌};
 ghost use Rattle.c_lexer.specs.ReadPart as spec;
 
 use crate::bytes::{Class, is_in, is_letter, is_white};
-use crate::comment::{is_exponent, goes_on};
+use crate::comment::{goes_on, is_exponent};
 use crate::punct::extends;
 
 /// The quotes of character constants and of string literals.

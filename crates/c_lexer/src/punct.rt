@@ -172,11 +172,10 @@ pub(crate) fn mark_of(text: &[u8]) -> Option<Punct>
 pub(crate) fn extends(text: &[u8], byte: u8) -> bool
     ensures { result ≡ extends text.now byte }
 {
-    let longer = match text {
-        [] => read_mark(&[byte]),
-        [first] => read_mark(&[*first, byte]),
-        [first, second] => read_mark(&[*first, *second, byte]),
-        _ => None,
-    };
-    longer.is_some()
+    match text {
+        [] => read_mark(&[byte]).is_some(),
+        [first] => read_mark(&[*first, byte]).is_some(),
+        [first, second] => read_mark(&[*first, *second, byte]).is_some(),
+        _ => false,
+    }
 }

@@ -75,7 +75,12 @@ impl Reader {
         let from = self.place.at;
         let pos = self.place.pos;
         let to = from + self.text.len() as u32;
-        self.tokens.push(Token { body, from, to, pos })?;
+        self.tokens.push(Token {
+            body,
+            from,
+            to,
+            pos,
+        })?;
         self.place = self.place.behind_token(&self.text);
         self.text.clear();
         self.mode = None;

@@ -9,7 +9,7 @@ returns-in-Some-clause-read c =
     let before = reading c.args.self.now in
     on_ok_weaker c.go_on.result
     (λ (is : reading c.go_on.new.self ≡ went_on before c.in-Some.mode c.args.byte) bytes none point read.
-        subst (λ r. IsRead Anything r (bytes ++ (c.args.byte ∷ []))) (sym is) (followed before.mode before c.in-Some.mode c.args.byte bytes refl none (sym c.next.ensures ∙ c.in-Some.is) read))
+    subst (λ r. IsRead Anything r (bytes ++ (c.args.byte ∷ []))) (sym is) (followed before.mode before c.in-Some.mode c.args.byte bytes refl none (sym c.next.ensures ∙ c.in-Some.is) read))
     c.go_on.ensures.ok
 
 pub returns-in_ok-close-in-None-clause-read : goal.returns-in_ok-close-in-None-clause-read
@@ -18,5 +18,5 @@ returns-in_ok-close-in-None-clause-read c =
     let mid = reading c.close.new.self in
     on_ok_weaker c.begin.result
     (λ (begins : BeginsOr mid.refused mid c.args.byte (reading c.begin.new.self)) bytes none point read.
-        turned before mid (reading c.begin.new.self) c.args.byte bytes none point (sym c.next.ensures ∙ c.in-None.is) c.in_ok-close-in-None.ensures.ok begins read)
+    turned before mid (reading c.begin.new.self) c.args.byte bytes none point (sym c.next.ensures ∙ c.in-None.is) c.in_ok-close-in-None.ensures.ok begins read)
     c.begin.ensures.ok
