@@ -131,14 +131,6 @@ unfolding literal_of
 literal_full text units false c = ap literal_of c.parts ∙ ended_full false text units c
 literal_full text units true c = ap literal_of c.parts ∙ ended_full true text units c
 
-pub literal_found : (text : List ℕ) (r : Option (List ℤ × Bool)) → r ≡ literal_of text → IfSome r (λ found. IsLiteral text found.0 found.1)
-literal_found text None h = tt
-literal_found text (Some found) h = literal_sound text found (sym h)
-
-pub literal_none : (text : List ℕ) (r : Option (List ℤ × Bool)) → r ≡ literal_of text → IfNone r ((units : List ℤ) (wide : Bool) → IsLiteral text units wide → ⊥)
-literal_none text (Some found) h = tt
-literal_none text None h = λ units wide is. none-some _ (h ∙ literal_full text units wide is)
-
 -- the same of a list that is kept in memory
 pub literal_read : {V E : Type 0} (items : V → List ℤ) (text : List ℕ) (r : Result (Option (V × Bool)) E) → IfOk r (λ found. option_map (λ x. (items x.0, x.1)) found ≡ literal_of text) → IfOk r (λ o. IfSome o (λ found. IsLiteral text (items found.0) found.1))
 literal_read items text (Err e) h = tt

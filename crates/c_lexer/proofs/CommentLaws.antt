@@ -2,9 +2,7 @@
 use Rattle.std.proofs.Common.{◌≡◌, inl, inr, ℕ, List, [], ◌∷◌, ◌++◌, Bool, true, false, ◌==◌, ◌&&◌, cond, drop, refl, sym, ◌∙◌, ap, subst, arith}
 use Rattle.std.proofs.lemmas.Bool.{and_parts, eqb-true, eqb-false, eq-eqb, false≢true, false_from_ne_true, ne_eqb}
 use Rattle.std.proofs.lemmas.Option.{none-some}
-use Rattle.std.specs.Prelude.{Option, Some, None, IfSome, IfNone, slice_index}
-use Rattle.std.specs.Borrow.{Bor}
-use Rattle.std.specs.Option.{option_copied}
+use Rattle.std.specs.Prelude.{Some, None, slice_index}
 use Rattle.c_lexer.specs.Comments.{NoClose, IsInner}
 use Rattle.c_lexer.specs.ReadComment.{past_close, past_quote}
 use Rattle.c_lexer.proofs.Cases.{chosen}
@@ -79,14 +77,6 @@ close_none (byte ∷ bytes) h (x ∷ before) after e =
     elim (chosen (byte == 42 && slice_index bytes 0 == 47) (Some (drop 1 bytes)) (past_close bytes) None h)
     [ inl a ↦ none-some _ (sym a.1) | inr a ↦ close_none bytes a.1 before after (let f : bytes ≡ before ++ (42 ∷ 47 ∷ after) = cc in f) ]
 
-pub close_found : (bytes : List ℕ) (r : Option (Bor (List ℕ))) → option_copied r ≡ past_close bytes → IfSome r (λ after. (body : List ℕ) × (bytes ≡ body ++ (42 ∷ 47 ∷ after.now)) × NoClose (body ++ (42 ∷ [])))
-close_found bytes None h = tt
-close_found bytes (Some after) h = (let c = close_sound bytes after.now (sym h) in (c.body, c.parts, c.first))
-
-pub close_missed : (bytes : List ℕ) (r : Option (Bor (List ℕ))) → option_copied r ≡ past_close bytes → IfNone r (NoClose bytes)
-close_missed bytes (Some after) h = tt
-close_missed bytes None h = close_none bytes (sym h)
-
 -- the text up to the closing quote
 pub record Ended (quote : ℕ) (hidden : Bool) (bytes after : List ℕ) : Type 0 where
   pub inner : List ℕ
@@ -118,11 +108,3 @@ quote_full quote true [] after not_feed inside = absurd (false≢true (sym insid
 quote_full quote false [] after not_feed inside = rw (ne_eqb quote 10 not_feed, eq-eqb quote quote refl) refl
 quote_full quote true (byte ∷ inner) after not_feed inside = rw (ne_eqb byte 10 inside.0) (quote_full quote false inner after not_feed inside.1)
 quote_full quote false (byte ∷ inner) after not_feed inside = rw (ne_eqb byte 10 inside.0, ne_eqb byte quote inside.1) (quote_full quote (byte == 92) inner after not_feed inside.2)
-
-pub quote_found : (quote : ℕ) (bytes : List ℕ) (r : Option (Bor (List ℕ))) → option_copied r ≡ past_quote quote false bytes → IfSome r (λ after. (inner : List ℕ) × (bytes ≡ inner ++ (quote ∷ after.now)) × IsInner quote false inner)
-quote_found quote bytes None h = tt
-quote_found quote bytes (Some after) h = (let e = quote_sound quote false bytes after.now (sym h) in (e.inner, e.parts, e.inside))
-
-pub quote_missed : (quote : ℕ) (bytes : List ℕ) (r : Option (Bor (List ℕ))) → (quote ≡ 10 → ⊥) → option_copied r ≡ past_quote quote false bytes → IfNone r ((inner after : List ℕ) → bytes ≡ inner ++ (quote ∷ after) → IsInner quote false inner → ⊥)
-quote_missed quote bytes (Some after) not_feed h = tt
-quote_missed quote bytes None not_feed h = λ inner after is inside. none-some _ (h ∙ (ap (past_quote quote false) is ∙ quote_full quote false inner after not_feed inside))

@@ -13,7 +13,6 @@ pub mod DirectiveLaws
 pub mod PragmaLaws
 pub mod ShapeLaws
 pub mod TokenLaws
-pub mod SpellingLaws
 pub mod OpenLaws
 pub mod EndLaws
 pub mod SplitMore

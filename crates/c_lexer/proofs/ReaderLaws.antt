@@ -15,7 +15,7 @@ use Rattle.c_lexer.specs.Lexing.{start, place_behind, tokens_of, Stands, Splits,
 use Rattle.c_lexer.specs.Open.{IsOpen}
 use Rattle.c_lexer.specs.Parts.{White, Spelled}
 use Rattle.c_lexer.specs.ReadPart.{first, next}
-use Rattle.c_lexer.specs.Reading.{Reading, Ahead, Anything, Byte, End, Follows, Stood, IsOpenPart, IsRead, IsReadOr, Ends, Closes, unread, went_on, skipped, added, stopped, after_ending, IsParted, given_back}
+use Rattle.c_lexer.specs.Reading.{Reading, Ahead, Anything, Byte, End, Follows, Stood, IsOpenPart, IsRead, IsReadOr, Ends, Closes, went_on, skipped, added, stopped, after_ending, IsParted, given_back}
 use Rattle.c_lexer.proofs.EndLaws.{Stops, IsNone, ends, point_stands}
 use Rattle.c_lexer.proofs.OpenLaws.{opens, goes_on, some_open}
 use Rattle.c_lexer.proofs.SplitMore.{token_at, splits_more, place_more, white_more, token_more, pos_after}
@@ -25,10 +25,6 @@ as_stood ahead r bytes none read = subst (λ o. IsReadOr o ahead r bytes) none r
 
 as_read : (ahead : Ahead) (r : Reading) (bytes : List ℕ) → r.refused ≡ None → Stood ahead r bytes → IsRead ahead r bytes
 as_read ahead r bytes none stood = subst (λ o. IsReadOr o ahead r bytes) (sym none) stood
-
--- nothing was read of nothing
-pub starts : IsRead Anything unread []
-starts = record { parts = []; split = λ rest follows. refl; tokens = refl; place = refl; part = refl }
 
 -- what is read whatever comes is read where something comes
 pub narrows : (ahead : Ahead) (r : Reading) (found : Option (Refusal × Pos)) (bytes : List ℕ) → IsReadOr found Anything r bytes → IsReadOr found ahead r bytes
