@@ -8,6 +8,7 @@ use crate::punct::Punct;
 use crate::spelling::token_of;
 use crate::token::Body;
 use crate::tokens::Tokens;
+use crate::units::Units;
 use crate::word::{Word, is_outside, word_of};
 use critical_table::{Pos, Refusal};
 use std::alloc::Global;
@@ -260,5 +261,14 @@ fn sizes(rt: HostRuntime) -> Result<(), Fail> {
         refusal(lexer.finish()),
         Some((Refusal::Size, Pos { line: 1, column: 1 }))
     );
+    Ok(())
+}
+
+#[test]
+fn units(rt: HostRuntime) -> Result<(), Fail> {
+    let made = Units::from_slice(rt.alloc(), &[97, -1])?;
+    assert_eq!(rt; made.as_slice(), [97, -1].as_slice());
+    assert_eq!(rt; made.get(1), Some(-1));
+    assert_eq!(rt; made.get(2), None);
     Ok(())
 }

@@ -1,6 +1,7 @@
-ghost use Rattle.std.specs.Prelude.{◌≡◌, length};
+ghost use Rattle.std.specs.Prelude.{◌≡◌, length, IfOk};
 ghost use Rattle.std.specs.List.{slice_get};
 
+use std::alloc::{AllocError, Global};
 use std::marker::Model;
 
 /// The units of a string literal without the null at its end (6.4.5): values of `char` from -128 to 127 in a narrow
@@ -23,6 +24,21 @@ impl Units {
         ensures { result ≡ units.items }
     {
         Units { units }
+    }
+
+    /// A literal with these units.
+    pub fn from_slice(alloc: Global, units: &[i64]) -> Result<Units, AllocError>
+        ensures { IfOk result (λ made. made ≡ units.now) }
+    {
+        let units = Vec::from_slice(alloc, units)?;
+        Ok(Units { units })
+    }
+
+    /// The units in order.
+    pub fn as_slice(&self) -> &[i64]
+        ensures { result.now ≡ self.now }
+    {
+        self.units.as_slice()
     }
 
     /// How many units there are.
