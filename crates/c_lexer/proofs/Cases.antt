@@ -1,26 +1,23 @@
--- Which way a test went.
-use Rattle.std.proofs.Common.{◌≡◌, ◌⊎◌, inl, inr, ℕ, Bool, true, false, ◌==◌, ◌||◌, cond, refl}
-use Rattle.std.proofs.lemmas.Bool.{eqb-true, false≢true}
-use Rattle.std.specs.Prelude.{Some, None, not}
+-- Which way a test went, and what it tells apart.
+use Rattle.std.proofs.Common.{◌≡◌, ◌⊎◌, inl, inr, ℕ, Bool, true, false, ◌==◌, cond, refl, sym, ◌∙◌, ap}
+use Rattle.std.proofs.lemmas.Bool.{false≢true, ne_eqb}
+use Rattle.std.specs.Prelude.{Option, Some, None, is_some, not}
 
 pub chosen : {A : Type 0} (b : Bool) (x y z : A) → cond b x y ≡ z → ((b ≡ true) × (x ≡ z)) ⊎ ((b ≡ false) × (y ≡ z))
 chosen true x y z h = inl (refl, h)
 chosen false x y z h = inr (refl, h)
 
-pub either : (x y : Bool) → (x || y) ≡ true → (x ≡ true) ⊎ (y ≡ true)
-either true y h = inl refl
-either false y h = inr h
+-- a byte of a class is none that is outside of it
+pub told_apart : (class : ℕ → Bool) (a b : ℕ) → class a ≡ true → class b ≡ false → a ≡ b → ⊥
+told_apart class a b inside outside same = false≢true (sym outside ∙ (ap class (sym same) ∙ inside))
 
-not_true : (b : Bool) → (b ≡ true → ⊥) → b ≡ false
-not_true true h = absurd (h refl)
-not_true false h = refl
+pub not_is_false : (b : Bool) → not b ≡ false → b ≡ true
+not_is_false true h = refl
+not_is_false false h = sym h
 
-pub neq-eqb : (a b : ℕ) → (a ≡ b → ⊥) → (a == b) ≡ false
-neq-eqb a b h = not_true (a == b) (λ e. h (eqb-true a b e))
+pub nothing_some : {A : Type 0} (o : Option A) → is_some o ≡ false → o ≡ None
+nothing_some None h = refl
+nothing_some (Some a) h = absurd (false≢true (sym h))
 
-pub none_found : {A : Type 0} {a : A} → None ≡ Some a → ⊥
-none_found h = cc
-
-pub not_false : (b : Bool) → not b ≡ true → b ≡ false
-not_false true h = absurd (false≢true h)
-not_false false h = refl
+pub other_byte : (class : ℕ → Bool) (value byte : ℕ) → class value ≡ false → class byte ≡ true → (byte == value) ≡ false
+other_byte class value byte outside inside = ne_eqb byte value (told_apart class byte value inside outside)

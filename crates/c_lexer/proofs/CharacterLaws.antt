@@ -1,6 +1,7 @@
 -- What is read as a character constant or a string literal is one, and each is read.
 use Rattle.std.proofs.Common.{◌≡◌, inl, inr, ℕ, List, [], ◌∷◌, ◌++◌, Bool, true, false, ◌==◌, ◌&&◌, cond, refl, sym, ◌∙◌, ap, subst}
 use Rattle.std.proofs.lemmas.Bool.{eqb-true, and_parts}
+use Rattle.std.proofs.lemmas.Option.{none-some}
 use Rattle.std.proofs.lemmas.Slice.Eq.{bytes_eq-Decides}
 use Rattle.std.specs.Prelude.{ℤ, Option, Some, None, IfSome, IfNone, Result, Ok, Err, IfOk}
 use Rattle.std.specs.List.{flat_map}
@@ -8,7 +9,7 @@ use Rattle.std.specs.Option.{option_map}
 use Rattle.std.specs.Str.{bytes_eq}
 use Rattle.c_lexer.specs.Characters.{Item, Plain, Letter, Octal, Hexadecimal, Ends, item_text, unit_of, opening, AreItems, IsCharacter, IsLiteral}
 use Rattle.c_lexer.specs.ReadCharacters.{item_at, closed, character_of, units_at, ended, literal_of}
-use Rattle.c_lexer.proofs.Cases.{chosen, none_found}
+use Rattle.c_lexer.proofs.Cases.{chosen}
 use Rattle.c_lexer.proofs.ItemLaws.{item_sound, item_full}
 use Rattle.c_lexer.proofs.UnitLaws.{units_sound, units_full}
 
@@ -16,7 +17,7 @@ same_text : (a b : List ℕ) → bytes_eq a b ≡ true → a ≡ b
 same_text a b h = (bytes_eq-Decides a b).0 h
 
 closed_sound : (wide : Bool) (bytes : List ℕ) (o : Option (ℕ × List ℕ)) (found : ℤ × Bool) → item_at wide 39 bytes ≡ o → closed wide o ≡ Some found → IsCharacter (opening wide ++ (39 ∷ bytes)) found.0 found.1
-closed_sound wide bytes None found at h = absurd (none_found h)
+closed_sound wide bytes None found at h = absurd (none-some _ h)
 closed_sound wide bytes (Some x) found at h =
     elim (chosen (bytes_eq x.1 (39 ∷ [])) (Some (unit_of wide x.0, wide)) None (Some found) h) [
       | inl a ↦
@@ -30,7 +31,7 @@ closed_sound wide bytes (Some x) found at h =
             fits = i.fits;
             same = refl;
           })
-      | inr a ↦ absurd (none_found a.1)
+      | inr a ↦ absurd (none-some _ a.1)
     ]
 
 quote_ends : (item : Item) → Ends item (39 ∷ [])
@@ -58,7 +59,7 @@ ended_sound wide bytes found h =
             fit = subst (AreItems wide 34 u.items u.values) end u.fit;
             same = u.same;
           })
-      | inr a ↦ absurd (none_found a.1)
+      | inr a ↦ absurd (none-some _ a.1)
     ]
 
 no_item : (wide : Bool) → item_at wide 34 (34 ∷ []) ≡ None
@@ -72,12 +73,12 @@ ended_full wide text units l =
 
 pub character_sound : (text : List ℕ) (found : ℤ × Bool) → character_of text ≡ Some found → IsCharacter text found.0 found.1
 unfolding character_of
-character_sound [] found h = absurd (none_found h)
+character_sound [] found h = absurd (none-some _ h)
 character_sound (a ∷ []) found h =
     elim (chosen (a == 39) (closed false (item_at false 39 [])) (cond (a == 76 && false) (closed true (item_at true 39 [])) None) (Some found) h) [
       | inl x ↦ subst (λ b. IsCharacter (b ∷ []) found.0 found.1) (sym (eqb-true a 39 x.0)) (closed_sound false [] (item_at false 39 []) found refl x.1)
       | inr x ↦ elim (chosen (a == 76 && false) (closed true (item_at true 39 [])) None (Some found) x.1)
-          [ inl y ↦ absurd (let e = (and_parts (a == 76) false y.0).1 in cc) | inr y ↦ absurd (none_found y.1) ]
+          [ inl y ↦ absurd (let e = (and_parts (a == 76) false y.0).1 in cc) | inr y ↦ absurd (none-some _ y.1) ]
     ]
 character_sound (a ∷ b ∷ rest) found h =
     elim (chosen (a == 39) (closed false (item_at false 39 (b ∷ rest))) (cond (a == 76 && b == 39) (closed true (item_at true 39 rest)) None) (Some found) h) [
@@ -87,7 +88,7 @@ character_sound (a ∷ b ∷ rest) found h =
             let both = and_parts (a == 76) (b == 39) y.0 in
             let P : ℕ → ℕ → Type 0 = λ k m. IsCharacter (k ∷ m ∷ rest) found.0 found.1 in
             subst (λ k. P k b) (sym (eqb-true a 76 both.0)) (subst (P 76) (sym (eqb-true b 39 both.1)) (closed_sound true rest (item_at true 39 rest) found refl y.1))
-        | inr y ↦ absurd (none_found y.1)
+        | inr y ↦ absurd (none-some _ y.1)
       ]
     ]
 
@@ -102,16 +103,16 @@ character_found text (Some found) h = character_sound text found (sym h)
 
 pub character_none : (text : List ℕ) (r : Option (ℤ × Bool)) → r ≡ character_of text → IfNone r ((value : ℤ) (wide : Bool) → IsCharacter text value wide → ⊥)
 character_none text (Some found) h = tt
-character_none text None h = λ value wide is. none_found (h ∙ character_full text value wide is)
+character_none text None h = λ value wide is. none-some _ (h ∙ character_full text value wide is)
 
 pub literal_sound : (text : List ℕ) (found : List ℤ × Bool) → literal_of text ≡ Some found → IsLiteral text found.0 found.1
 unfolding literal_of
-literal_sound [] found h = absurd (none_found h)
+literal_sound [] found h = absurd (none-some _ h)
 literal_sound (a ∷ []) found h =
     elim (chosen (a == 34) (ended false (units_at false [])) (cond (a == 76 && false) (ended true (units_at true [])) None) (Some found) h) [
       | inl x ↦ subst (λ b. IsLiteral (b ∷ []) found.0 found.1) (sym (eqb-true a 34 x.0)) (ended_sound false [] found x.1)
       | inr x ↦ elim (chosen (a == 76 && false) (ended true (units_at true [])) None (Some found) x.1)
-          [ inl y ↦ absurd (let e = (and_parts (a == 76) false y.0).1 in cc) | inr y ↦ absurd (none_found y.1) ]
+          [ inl y ↦ absurd (let e = (and_parts (a == 76) false y.0).1 in cc) | inr y ↦ absurd (none-some _ y.1) ]
     ]
 literal_sound (a ∷ b ∷ rest) found h =
     elim (chosen (a == 34) (ended false (units_at false (b ∷ rest))) (cond (a == 76 && b == 34) (ended true (units_at true rest)) None) (Some found) h) [
@@ -121,7 +122,7 @@ literal_sound (a ∷ b ∷ rest) found h =
             let both = and_parts (a == 76) (b == 34) y.0 in
             let P : ℕ → ℕ → Type 0 = λ k m. IsLiteral (k ∷ m ∷ rest) found.0 found.1 in
             subst (λ k. P k b) (sym (eqb-true a 76 both.0)) (subst (P 76) (sym (eqb-true b 34 both.1)) (ended_sound true rest found y.1))
-        | inr y ↦ absurd (none_found y.1)
+        | inr y ↦ absurd (none-some _ y.1)
       ]
     ]
 
@@ -129,14 +130,6 @@ pub literal_full : (text : List ℕ) (units : List ℤ) (wide : Bool) → IsLite
 unfolding literal_of
 literal_full text units false c = ap literal_of c.parts ∙ ended_full false text units c
 literal_full text units true c = ap literal_of c.parts ∙ ended_full true text units c
-
-pub literal_found : (text : List ℕ) (r : Option (List ℤ × Bool)) → r ≡ literal_of text → IfSome r (λ found. IsLiteral text found.0 found.1)
-literal_found text None h = tt
-literal_found text (Some found) h = literal_sound text found (sym h)
-
-pub literal_none : (text : List ℕ) (r : Option (List ℤ × Bool)) → r ≡ literal_of text → IfNone r ((units : List ℤ) (wide : Bool) → IsLiteral text units wide → ⊥)
-literal_none text (Some found) h = tt
-literal_none text None h = λ units wide is. none_found (h ∙ literal_full text units wide is)
 
 -- the same of a list that is kept in memory
 pub literal_read : {V E : Type 0} (items : V → List ℤ) (text : List ℕ) (r : Result (Option (V × Bool)) E) → IfOk r (λ found. option_map (λ x. (items x.0, x.1)) found ≡ literal_of text) → IfOk r (λ o. IfSome o (λ found. IsLiteral text (items found.0) found.1))
@@ -147,4 +140,4 @@ literal_read items text (Ok (Some found)) h = literal_sound text (items found.0,
 pub literal_not_read : {V E : Type 0} (items : V → List ℤ) (text : List ℕ) (r : Result (Option (V × Bool)) E) → IfOk r (λ found. option_map (λ x. (items x.0, x.1)) found ≡ literal_of text) → IfOk r (λ o. IfNone o ((units : List ℤ) (wide : Bool) → IsLiteral text units wide → ⊥))
 literal_not_read items text (Err e) h = tt
 literal_not_read items text (Ok (Some found)) h = tt
-literal_not_read items text (Ok None) h = λ units wide is. none_found (h ∙ literal_full text units wide is)
+literal_not_read items text (Ok None) h = λ units wide is. none-some _ (h ∙ literal_full text units wide is)

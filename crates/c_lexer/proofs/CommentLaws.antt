@@ -1,12 +1,11 @@
 -- The end of a comment and of a text between quotes is the first there is.
 use Rattle.std.proofs.Common.{◌≡◌, inl, inr, ℕ, List, [], ◌∷◌, ◌++◌, Bool, true, false, ◌==◌, ◌&&◌, cond, drop, refl, sym, ◌∙◌, ap, subst, arith}
-use Rattle.std.proofs.lemmas.Bool.{and_parts, eqb-true, eqb-false, eq-eqb, false≢true}
-use Rattle.std.specs.Prelude.{Option, Some, None, IfSome, IfNone, slice_index}
-use Rattle.std.specs.Borrow.{Bor}
-use Rattle.std.specs.Option.{option_copied}
+use Rattle.std.proofs.lemmas.Bool.{and_parts, eqb-true, eqb-false, eq-eqb, false≢true, false_from_ne_true, ne_eqb}
+use Rattle.std.proofs.lemmas.Option.{none-some}
+use Rattle.std.specs.Prelude.{Some, None, slice_index}
 use Rattle.c_lexer.specs.Comments.{NoClose, IsInner}
 use Rattle.c_lexer.specs.ReadComment.{past_close, past_quote}
-use Rattle.c_lexer.proofs.Cases.{chosen, neq-eqb, none_found}
+use Rattle.c_lexer.proofs.Cases.{chosen}
 
 -- the text up to the first `*/`
 pub record Closed (bytes after : List ℕ) : Type 0 where
@@ -44,12 +43,26 @@ closed_later byte bytes after test c = record {
 }
 
 pub close_sound : (bytes after : List ℕ) → past_close bytes ≡ Some after → Closed bytes after
-close_sound [] after h = absurd (none_found h)
+close_sound [] after h = absurd (none-some _ h)
 close_sound (byte ∷ bytes) after h =
     elim (chosen (byte == 42 && slice_index bytes 0 == 47) (Some (drop 1 bytes)) (past_close bytes) (Some after) h) [
       | inl a ↦ (let both = and_parts (byte == 42) (slice_index bytes 0 == 47) a.0 in closed_here byte bytes after both.0 both.1 (let e = a.1 in cc))
       | inr a ↦ closed_later byte bytes after a.0 (close_sound bytes after a.1)
     ]
+
+-- no `*/` begins in a body before the one that ends it
+no_close_here : (byte : ℕ) (body after : List ℕ) → NoClose (byte ∷ (body ++ (42 ∷ []))) → (byte == 42 && slice_index (body ++ (42 ∷ 47 ∷ after)) 0 == 47) ≡ true → ⊥
+no_close_here byte [] after first h = false≢true (and_parts (byte == 42) false h).1
+no_close_here byte (c ∷ body) after first h =
+    let both = and_parts (byte == 42) (c == 47) h in
+    let one : byte ≡ 42 = eqb-true byte 42 both.0 in
+    let two : c ≡ 47 = eqb-true c 47 both.1 in
+    first [] (body ++ (42 ∷ [])) (cc)
+
+pub close_full : (body after : List ℕ) → NoClose (body ++ (42 ∷ [])) → past_close (body ++ (42 ∷ 47 ∷ after)) ≡ Some after
+close_full [] after first = refl
+close_full (byte ∷ body) after first =
+    rw (false_from_ne_true _ (no_close_here byte body after first)) (close_full body after (λ before rest e. first (byte ∷ before) rest (ap (λ t. byte ∷ t) e)))
 
 -- where none is found there is none
 pub close_none : (bytes : List ℕ) → past_close bytes ≡ None → NoClose bytes
@@ -59,18 +72,10 @@ close_none (byte ∷ bytes) h [] after e =
     let one : byte ≡ 42 = cc in
     let two : bytes ≡ 47 ∷ after = cc in
     let now : past_close (byte ∷ bytes) ≡ Some after = ap past_close e in
-    none_found (sym h ∙ now)
+    none-some _ (sym h ∙ now)
 close_none (byte ∷ bytes) h (x ∷ before) after e =
     elim (chosen (byte == 42 && slice_index bytes 0 == 47) (Some (drop 1 bytes)) (past_close bytes) None h)
-    [ inl a ↦ none_found (sym a.1) | inr a ↦ close_none bytes a.1 before after (let f : bytes ≡ before ++ (42 ∷ 47 ∷ after) = cc in f) ]
-
-pub close_found : (bytes : List ℕ) (r : Option (Bor (List ℕ))) → option_copied r ≡ past_close bytes → IfSome r (λ after. (body : List ℕ) × (bytes ≡ body ++ (42 ∷ 47 ∷ after.now)) × NoClose (body ++ (42 ∷ [])))
-close_found bytes None h = tt
-close_found bytes (Some after) h = (let c = close_sound bytes after.now (sym h) in (c.body, c.parts, c.first))
-
-pub close_missed : (bytes : List ℕ) (r : Option (Bor (List ℕ))) → option_copied r ≡ past_close bytes → IfNone r (NoClose bytes)
-close_missed bytes (Some after) h = tt
-close_missed bytes None h = close_none bytes (sym h)
+    [ inl a ↦ none-some _ (sym a.1) | inr a ↦ close_none bytes a.1 before after (let f : bytes ≡ before ++ (42 ∷ 47 ∷ after) = cc in f) ]
 
 -- the text up to the closing quote
 pub record Ended (quote : ℕ) (hidden : Bool) (bytes after : List ℕ) : Type 0 where
@@ -79,17 +84,17 @@ pub record Ended (quote : ℕ) (hidden : Bool) (bytes after : List ℕ) : Type 0
   pub inside : IsInner quote hidden inner
 
 pub quote_sound : (quote : ℕ) (hidden : Bool) (bytes after : List ℕ) → past_quote quote hidden bytes ≡ Some after → Ended quote hidden bytes after
-quote_sound quote hidden [] after h = absurd (none_found h)
+quote_sound quote hidden [] after h = absurd (none-some _ h)
 quote_sound quote true (byte ∷ bytes) after h =
     elim (chosen (byte == 10) None (past_quote quote false bytes) (Some after) h) [
-      | inl a ↦ absurd (none_found a.1)
+      | inl a ↦ absurd (none-some _ a.1)
       | inr a ↦
           let e = quote_sound quote false bytes after a.1 in
           record { inner = byte ∷ e.inner; parts = ap (λ t. byte ∷ t) e.parts; inside = (eqb-false byte 10 a.0, e.inside) }
     ]
 quote_sound quote false (byte ∷ bytes) after h =
     elim (chosen (byte == 10) None (cond (byte == quote) (Some bytes) (past_quote quote (byte == 92) bytes)) (Some after) h) [
-      | inl a ↦ absurd (none_found a.1)
+      | inl a ↦ absurd (none-some _ a.1)
       | inr a ↦ elim (chosen (byte == quote) (Some bytes) (past_quote quote (byte == 92) bytes) (Some after) a.1) [
         | inl b ↦ record { inner = []; parts = (let e : byte ≡ quote = eqb-true byte quote b.0 in let f = b.1 in cc); inside = refl }
         | inr b ↦
@@ -100,14 +105,6 @@ quote_sound quote false (byte ∷ bytes) after h =
 
 pub quote_full : (quote : ℕ) (hidden : Bool) (inner after : List ℕ) → (quote ≡ 10 → ⊥) → IsInner quote hidden inner → past_quote quote hidden (inner ++ (quote ∷ after)) ≡ Some after
 quote_full quote true [] after not_feed inside = absurd (false≢true (sym inside))
-quote_full quote false [] after not_feed inside = rw (neq-eqb quote 10 not_feed, eq-eqb quote quote refl) refl
-quote_full quote true (byte ∷ inner) after not_feed inside = rw (neq-eqb byte 10 inside.0) (quote_full quote false inner after not_feed inside.1)
-quote_full quote false (byte ∷ inner) after not_feed inside = rw (neq-eqb byte 10 inside.0, neq-eqb byte quote inside.1) (quote_full quote (byte == 92) inner after not_feed inside.2)
-
-pub quote_found : (quote : ℕ) (bytes : List ℕ) (r : Option (Bor (List ℕ))) → option_copied r ≡ past_quote quote false bytes → IfSome r (λ after. (inner : List ℕ) × (bytes ≡ inner ++ (quote ∷ after.now)) × IsInner quote false inner)
-quote_found quote bytes None h = tt
-quote_found quote bytes (Some after) h = (let e = quote_sound quote false bytes after.now (sym h) in (e.inner, e.parts, e.inside))
-
-pub quote_missed : (quote : ℕ) (bytes : List ℕ) (r : Option (Bor (List ℕ))) → (quote ≡ 10 → ⊥) → option_copied r ≡ past_quote quote false bytes → IfNone r ((inner after : List ℕ) → bytes ≡ inner ++ (quote ∷ after) → IsInner quote false inner → ⊥)
-quote_missed quote bytes (Some after) not_feed h = tt
-quote_missed quote bytes None not_feed h = λ inner after is inside. none_found (h ∙ (ap (past_quote quote false) is ∙ quote_full quote false inner after not_feed inside))
+quote_full quote false [] after not_feed inside = rw (ne_eqb quote 10 not_feed, eq-eqb quote quote refl) refl
+quote_full quote true (byte ∷ inner) after not_feed inside = rw (ne_eqb byte 10 inside.0) (quote_full quote false inner after not_feed inside.1)
+quote_full quote false (byte ∷ inner) after not_feed inside = rw (ne_eqb byte 10 inside.0, ne_eqb byte quote inside.1) (quote_full quote (byte == 92) inner after not_feed inside.2)

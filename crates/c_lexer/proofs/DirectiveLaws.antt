@@ -1,13 +1,13 @@
 -- A directive line is read exactly, but for pragmas.
 use Rattle.std.proofs.Common.{◌≡◌, inl, inr, ℕ, ◌+◌, ◌<◌, List, [], ◌∷◌, ◌++◌, Bool, true, false, ◌==◌, ◌&&◌, cond, length, take, drop, refl, sym, ◌∙◌, ap, subst, arith}
-use Rattle.std.proofs.lemmas.Bool.{and_parts, and_from, eqb-true, eqb-false, false≢true}
+use Rattle.std.proofs.lemmas.Bool.{and_parts, and_from, eqb-true, eqb-false, false≢true, ne_eqb, not-true, or_cases}
+use Rattle.std.proofs.lemmas.Option.{none-some}
 use Rattle.std.proofs.lemmas.List.{take-append-drop}
 use Rattle.std.proofs.lemmas.List.Folds.{length-prefix_len}
 use Rattle.std.proofs.lemmas.Slice.Eq.{bytes_eq-Decides}
 use Rattle.std.proofs.Math.Seq.{take-append_seam, drop-append_seam}
 use Rattle.std.specs.Prelude.{Option, Some, None, IsTrue, ◌↔◌, not, nat_eq, codes}
-use Rattle.std.specs.List.{prefix_len, list_all, list_any, AllByRecursion}
-use Rattle.std.specs.Str.{bytes_eq}
+use Rattle.std.specs.List.{prefix_len, list_all}
 use Rattle.std.specs.Cmp.Lexicographic.{pointwise}
 use Rattle.c_lexer.specs.declared.bytes.Class.TheVariants as class
 use Rattle.c_lexer.specs.Bytes.{is_blank}
@@ -15,8 +15,9 @@ use Rattle.c_lexer.specs.Classes.{is_in}
 use Rattle.c_lexer.specs.Directives.{headers, is_header, IsInclude, IsDefine, IsMarker}
 use Rattle.c_lexer.specs.ReadComment.{past_quote}
 use Rattle.c_lexer.specs.ReadDirective.{stripped, on, unblank, all_blank, begins_blank, ends_include, is_include, ends_define, names_extension, is_define, ends_marker, is_marker}
-use Rattle.c_lexer.proofs.Cases.{chosen, either, neq-eqb, none_found, not_false}
-use Rattle.c_lexer.proofs.Runs.{run_all, run_whole}
+use Rattle.c_lexer.proofs.Tables.{listed_true}
+use Rattle.c_lexer.proofs.Cases.{chosen}
+use Rattle.c_lexer.proofs.Runs.{front_taken, front_dropped, run_all, run_whole}
 use Rattle.c_lexer.proofs.CommentLaws.{quote_sound, quote_full}
 
 pub strip_sound : (word text after : List ℕ) → stripped word text ≡ Some after → text ≡ word ++ after
@@ -26,7 +27,7 @@ strip_sound word text after h =
           let rest : drop (length word) text ≡ after = (let e = a.1 in cc) in
           let front : take (length word) text ≡ word = (bytes_eq-Decides (take (length word) text) word).0 a.0 in
           sym (take-append-drop (length word) text) ∙ (ap (λ t. t ++ drop (length word) text) front ∙ ap (λ t. word ++ t) rest)
-      | inr a ↦ absurd (none_found a.1)
+      | inr a ↦ absurd (none-some _ a.1)
     ]
 
 pub strip_full : (word after : List ℕ) → stripped word (word ++ after) ≡ Some after
@@ -58,7 +59,7 @@ unfolding blanks_of
 blanks_blank text = run_all (is_in class.Blank) text
 
 not_zero : (n : ℕ) → not (n == 0) ≡ true → 0 < n
-not_zero n h = (let no : n ≡ 0 → ⊥ = eqb-false n 0 (not_false (n == 0) h) in omega (arith, no))
+not_zero n h = (let no : n ≡ 0 → ⊥ = eqb-false n 0 (not-true (n == 0) h) in omega (arith, no))
 
 blanks_some : (text : List ℕ) → begins_blank text ≡ true → 0 < length (blanks_of text)
 unfolding blanks_of
@@ -68,10 +69,10 @@ blank_run : (blanks rest : List ℕ) → list_all is_blank blanks ≡ true → p
 blank_run blanks rest all ends = run_whole (is_in class.Blank) blanks rest all ends
 
 pub unblank_full : (blanks rest : List ℕ) → list_all is_blank blanks ≡ true → prefix_len (is_in class.Blank) rest ≡ 0 → unblank (blanks ++ rest) ≡ rest
-unblank_full blanks rest all ends = ap (λ n. drop n (blanks ++ rest)) (blank_run blanks rest all ends) ∙ drop-append_seam blanks rest
+unblank_full blanks rest all ends = front_dropped _ blanks rest (blank_run blanks rest all ends)
 
 some_true : (n m : ℕ) → n ≡ m → 0 < m → not (n == 0) ≡ true
-some_true n m is some = ap not (neq-eqb n 0 (λ (e : n ≡ 0). omega (arith, e, is, some)))
+some_true n m is some = ap not (ne_eqb n 0 (λ (e : n ≡ 0). omega (arith, e, is, some)))
 
 begins_full : (blanks rest : List ℕ) → list_all is_blank blanks ≡ true → prefix_len (is_in class.Blank) rest ≡ 0 → 0 < length blanks → begins_blank (blanks ++ rest) ≡ true
 begins_full blanks rest all ends some = some_true (prefix_len (is_in class.Blank) (blanks ++ rest)) (length blanks) (blank_run blanks rest all ends) some
@@ -80,15 +81,11 @@ solid_ends : (last : List ℕ) → list_all is_blank last ≡ true → prefix_le
 solid_ends [] h = refl
 solid_ends (b ∷ last) h = ap (λ t. cond (not t) (1 + prefix_len (is_in class.Solid) last) 0) (and_parts (is_blank b) (list_all is_blank last) h).0
 
-among : (P : List ℕ → Type 0) (words : List (List ℕ)) (text : List ℕ) → AllByRecursion P words → list_any (λ word. bytes_eq word text) words ≡ true → P text
-among P [] text all h = absurd (false≢true h)
-among P (word ∷ words) text all h =
-    elim (either (bytes_eq word text) (list_any (λ w. bytes_eq w text) words) h)
-    [ inl a ↦ subst P ((bytes_eq-Decides word text).0 a) all.0 | inr a ↦ among P words text all.1 a ]
-
 header_solid : (header last : List ℕ) → is_header header ≡ true → (list_all (is_in class.Solid) header ≡ true) × (prefix_len (is_in class.Blank) (header ++ last) ≡ 0)
 unfolding is_header
-header_solid header last h = among (λ t. (list_all (is_in class.Solid) t ≡ true) × (prefix_len (is_in class.Blank) (t ++ last) ≡ 0)) headers header ((refl, refl), ((refl, refl), ((refl, refl), ((refl, refl), ((refl, refl), ((refl, refl), ((refl, refl), ((refl, refl), ((refl, refl), tt))))))))) h
+header_solid header last h =
+    let both = and_parts _ _ (listed_true (λ t. list_all (is_in class.Solid) t && prefix_len (is_in class.Blank) (t ++ last) == 0) headers header refl h) in
+    (both.0, eqb-true _ 0 both.1)
 
 pub include_sound : (text : List ℕ) → is_include text ≡ true → IsInclude text
 unfolding is_include
@@ -112,8 +109,8 @@ include_full text i =
     let solid = header_solid i.header i.last i.known in
     let start : unblank (i.before ++ (i.header ++ i.last)) ≡ i.header ++ i.last = unblank_full i.before (i.header ++ i.last) i.blanks.0 solid.1 in
     let run : prefix_len (is_in class.Solid) (i.header ++ i.last) ≡ length i.header = run_whole (is_in class.Solid) i.header i.last solid.0 (solid_ends i.last i.blanks.1) in
-    let front : take (prefix_len (is_in class.Solid) (i.header ++ i.last)) (i.header ++ i.last) ≡ i.header = ap (λ n. take n (i.header ++ i.last)) run ∙ take-append_seam i.header i.last in
-    let back : drop (prefix_len (is_in class.Solid) (i.header ++ i.last)) (i.header ++ i.last) ≡ i.last = ap (λ n. drop n (i.header ++ i.last)) run ∙ drop-append_seam i.header i.last in
+    let front : take (prefix_len (is_in class.Solid) (i.header ++ i.last)) (i.header ++ i.last) ≡ i.header = front_taken _ i.header i.last run in
+    let back : drop (prefix_len (is_in class.Solid) (i.header ++ i.last)) (i.header ++ i.last) ≡ i.last = front_dropped _ i.header i.last run in
     ap (λ t. on (stripped (codes "include") t) (λ after. ends_include (unblank after))) i.parts
     ∙ (ap (λ o. on o (λ after. ends_include (unblank after))) (strip_full (codes "include") (i.before ++ (i.header ++ i.last)))
     ∙ (ap ends_include start ∙ and_from _ _ (ap is_header front ∙ i.known) (ap all_blank back ∙ i.blanks.1)))
@@ -178,7 +175,7 @@ marker_sound text h =
 decimal_ends : (between after : List ℕ) → list_all is_blank between ≡ true → prefix_len (is_in class.Decimal) (between ++ (34 ∷ after)) ≡ 0
 decimal_ends [] after h = refl
 decimal_ends (b ∷ between) after h =
-    elim (either (b == 32) (b == 9) (and_parts (is_blank b) (list_all is_blank between) h).0) [
+    elim (or_cases (b == 32) (b == 9) (and_parts (is_blank b) (list_all is_blank between) h).0) [
       | inl e ↦ subst (λ x. prefix_len (is_in class.Decimal) (x ∷ (between ++ (34 ∷ after))) ≡ 0) (sym (eqb-true b 32 e)) refl
       | inr e ↦ subst (λ x. prefix_len (is_in class.Decimal) (x ∷ (between ++ (34 ∷ after))) ≡ 0) (sym (eqb-true b 9 e)) refl
     ]
@@ -191,7 +188,7 @@ marker_full text m =
     let run : prefix_len (is_in class.Decimal) (m.number ++ (m.between ++ (34 ∷ (m.file ++ (34 ∷ m.last))))) ≡ length m.number =
     run_whole (is_in class.Decimal) m.number (m.between ++ (34 ∷ (m.file ++ (34 ∷ m.last)))) m.digits (decimal_ends m.between (m.file ++ (34 ∷ m.last)) m.blank) in
     let back : drop (prefix_len (is_in class.Decimal) (m.number ++ (m.between ++ (34 ∷ (m.file ++ (34 ∷ m.last)))))) (m.number ++ (m.between ++ (34 ∷ (m.file ++ (34 ∷ m.last))))) ≡ m.between ++ (34 ∷ (m.file ++ (34 ∷ m.last))) =
-    ap (λ k. drop k (m.number ++ (m.between ++ (34 ∷ (m.file ++ (34 ∷ m.last)))))) run ∙ drop-append_seam m.number (m.between ++ (34 ∷ (m.file ++ (34 ∷ m.last)))) in
+    front_dropped _ m.number (m.between ++ (34 ∷ (m.file ++ (34 ∷ m.last)))) run in
     let closing : ends_marker (m.file ++ (34 ∷ m.last)) ≡ true = ap (λ o. on o (list_all (is_in class.Spaced))) (quote_full 34 false m.file m.last (λ (e : 34 ≡ 10). omega (arith, e)) m.name) ∙ m.numbers in
     subst (λ t. (not (prefix_len (is_in class.Decimal) t == 0) && on (stripped (codes "\"") (unblank (drop (prefix_len (is_in class.Decimal) t) t))) ends_marker) ≡ true) (sym m.parts)
     (and_from _ _ (some_true _ (length m.number) run m.some)

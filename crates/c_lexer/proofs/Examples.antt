@@ -1,6 +1,7 @@
 -- The definitions at texts whose answer is known: the row that fits at the front, and the tokens of nothing.
 use Rattle.std.proofs.Common.{◌≡◌, inl, inr, [], true, false, refl, sym, ◌∙◌, ap, arith}
 use Rattle.std.proofs.lemmas.Bool.{false≢true}
+use Rattle.std.proofs.lemmas.Option.{none-some}
 use Rattle.std.specs.Prelude.{codes, None}
 use Rattle.critical_table.specs.declared.refusal.Refusal.TheVariants.{Unclosed, Literal, Directive, Profile}
 use Rattle.c_lexer.specs.Words.{is_outside}
@@ -11,7 +12,6 @@ use Rattle.c_lexer.specs.ReadComment.{past_quote}
 use Rattle.c_lexer.specs.ReadDirective.{is_include, is_define, is_marker, is_pragma}
 use Rattle.c_lexer.specs.Rows.{Fits}
 use Rattle.c_lexer.specs.Lexing.{AreTokens}
-use Rattle.c_lexer.proofs.Cases.{none_found}
 use Rattle.c_lexer.proofs.NumberLaws.{number_full}
 use Rattle.c_lexer.proofs.CharacterLaws.{character_full}
 use Rattle.c_lexer.proofs.CommentLaws.{close_none, quote_full}
@@ -28,14 +28,14 @@ unfolding number_of constant
 octal_nine = refl
 
 pub octal_nine_is_no_number : Fits true (codes "09;") Literal
-octal_nine_is_no_number = inl (refl, λ number is. none_found (sym octal_nine ∙ number_full (codes "09") number is))
+octal_nine_is_no_number = inl (refl, λ number is. none-some _ (sym octal_nine ∙ number_full (codes "09") number is))
 
 fraction : number_of (codes "1.5") ≡ None
 unfolding number_of constant
 fraction = refl
 
 pub fraction_is_no_number : Fits true (codes "1.5") Literal
-fraction_is_no_number = inl (refl, λ number is. none_found (sym fraction ∙ number_full (codes "1.5") number is))
+fraction_is_no_number = inl (refl, λ number is. none-some _ (sym fraction ∙ number_full (codes "1.5") number is))
 
 two_characters : character_of (codes "'ab'") ≡ None
 unfolding character_of item_at
@@ -48,7 +48,7 @@ two_characters_are_none = inr (inl (record {
   after = [];
   parts = refl;
   inside = ((λ (e : 97 ≡ 10). omega (arith, e)), (λ (e : 97 ≡ 39). omega (arith, e)), ((λ (e : 98 ≡ 10). omega (arith, e)), (λ (e : 98 ≡ 39). omega (arith, e)), refl));
-  none = λ value is. none_found (sym two_characters ∙ character_full (codes "'ab'") value false is);
+  none = λ value is. none-some _ (sym two_characters ∙ character_full (codes "'ab'") value false is);
 }))
 
 pub comment_never_ends : Fits true (codes "/* a") Unclosed
@@ -59,7 +59,7 @@ literal_never_ends = inr (inr (record {
   wide = false;
   rest = codes "a";
   parts = refl;
-  never = λ inner after is inside. none_found (ap (past_quote 34 false) is ∙ quote_full 34 false inner after (λ (e : 34 ≡ 10). omega (arith, e)) inside);
+  never = λ inner after is inside. none-some _ (ap (past_quote 34 false) is ∙ quote_full 34 false inner after (λ (e : 34 ≡ 10). omega (arith, e)) inside);
 }))
 
 no_shape : IsShape (codes "if 1") → ⊥

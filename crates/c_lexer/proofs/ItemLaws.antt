@@ -1,9 +1,9 @@
 -- What is read as an item of a constant or literal is one, and each item is read.
 use Rattle.std.proofs.Common.{◌≡◌, inl, inr, ℕ, ◌^◌, ◌<◌, ◌≤◌, List, [], ◌∷◌, ◌++◌, Bool, true, false, ◌==◌, ◌||◌, ◌&&◌, cond, length, take, drop, min, refl, sym, ◌∙◌, ap, subst, arith, lit<}
-use Rattle.std.proofs.lemmas.Bool.{eqb-true, eqb-false, or_parts, and_parts, cases_lt, cond-true, leb-true, leb-false, le-leb, lt-leb, false≢true}
+use Rattle.std.proofs.lemmas.Bool.{eqb-true, eqb-false, or_parts, and_parts, cases_lt, cond-true, leb-true, leb-false, le-leb, lt-leb, false≢true, ne_eqb, not-true}
+use Rattle.std.proofs.lemmas.Option.{none-some}
 use Rattle.std.proofs.lemmas.List.{take-append-drop, length-take-le}
 use Rattle.std.proofs.lemmas.List.Sums.{prefix_len-le-length}
-use Rattle.std.proofs.Math.Seq.{take-append_seam, drop-append_seam}
 use Rattle.std.specs.Prelude.{Option, Some, None, nat_le}
 use Rattle.std.specs.Option.{option_map}
 use Rattle.std.specs.List.{prefix_len, list_all, AllByRecursion}
@@ -13,10 +13,10 @@ use Rattle.c_lexer.specs.Bytes.{is_octal}
 use Rattle.c_lexer.specs.Characters.{Item, Plain, Letter, Octal, Hexadecimal, item_text, escapes, value_at, greatest, IsItem, Ends}
 use Rattle.c_lexer.specs.ReadNumber.{value_of}
 use Rattle.c_lexer.specs.ReadCharacters.{within, numbered, escape_at, is_plain, item_at}
-use Rattle.c_lexer.proofs.Cases.{chosen, neq-eqb, none_found, not_false}
+use Rattle.c_lexer.proofs.Cases.{chosen}
 use Rattle.c_lexer.proofs.Values.{small_enough}
 use Rattle.c_lexer.proofs.NumberLaws.{value_sound}
-use Rattle.c_lexer.proofs.Runs.{run_part, run_ends, run_whole, run_least}
+use Rattle.c_lexer.proofs.Runs.{front_taken, front_dropped, run_part, run_ends, run_whole, run_least}
 
 -- what so many digits were read as
 pub record Digits (wide : Bool) (radix : ℕ) (count : ℕ) (bytes : List ℕ) (found : ℕ × List ℕ) : Type 0 where
@@ -26,20 +26,20 @@ pub record Digits (wide : Bool) (radix : ℕ) (count : ℕ) (bytes : List ℕ) (
   pub after : found.1 ≡ drop count bytes
 
 within_sound : (wide : Bool) (radix count : ℕ) (bytes : List ℕ) (value : Option ℕ) (found : ℕ × List ℕ) → 0 < count → value_of radix (take count bytes) ≡ value → within wide value (drop count bytes) ≡ Some found → Digits wide radix count bytes found
-within_sound wide radix count bytes None found some at h = absurd (none_found h)
+within_sound wide radix count bytes None found some at h = absurd (none-some _ h)
 within_sound wide radix count bytes (Some value) found some at h =
     elim (chosen (nat_le value (greatest wide)) (Some (value, drop count bytes)) None (Some found) h) [
       | inl a ↦
           let same : (value, drop count bytes) ≡ found = (let e = a.1 in cc) in
           subst (Digits wide radix count bytes) same (record { some = some; value = (value_sound radix value (take count bytes) at).1; fits = leb-true _ _ a.0; after = refl })
-      | inr a ↦ absurd (none_found a.1)
+      | inr a ↦ absurd (none-some _ a.1)
     ]
 
 pub numbered_sound : (wide : Bool) (radix count : ℕ) (bytes : List ℕ) (found : ℕ × List ℕ) → numbered wide radix count bytes ≡ Some found → Digits wide radix count bytes found
 unfolding numbered
 numbered_sound wide radix count bytes found h =
     elim (chosen (count == 0) None (within wide (value_of radix (take count bytes)) (drop count bytes)) (Some found) h) [
-      | inl a ↦ absurd (none_found a.1)
+      | inl a ↦ absurd (none-some _ a.1)
       | inr a ↦
           let no : count ≡ 0 → ⊥ = eqb-false count 0 a.0 in
           within_sound wide radix count bytes (value_of radix (take count bytes)) found (omega (arith, no)) refl a.1
@@ -52,9 +52,9 @@ greatest_small false = lit< tt
 pub numbered_full : (wide : Bool) (radix count : ℕ) (digits after : List ℕ) (value : ℕ) → count ≡ length digits → 0 < length digits → value ≡ digits_value radix digits → value ≤ greatest wide → numbered wide radix count (digits ++ after) ≡ Some (value, after)
 unfolding numbered
 numbered_full wide radix count digits after value is some same fits =
-    let front : take count (digits ++ after) ≡ digits = ap (λ n. take n (digits ++ after)) is ∙ take-append_seam digits after in
-    let back : drop count (digits ++ after) ≡ after = ap (λ n. drop n (digits ++ after)) is ∙ drop-append_seam digits after in
-    let no : (count == 0) ≡ false = neq-eqb count 0 (λ (e : count ≡ 0). omega (arith, e, is, some)) in
+    let front : take count (digits ++ after) ≡ digits = front_taken count digits after is in
+    let back : drop count (digits ++ after) ≡ after = front_dropped count digits after is in
+    let no : (count == 0) ≡ false = ne_eqb count 0 (λ (e : count ≡ 0). omega (arith, e, is, some)) in
     let small : digits_value radix digits < 2 ^ 64 = (let g = greatest_small wide in omega (arith, g, same, fits)) in
     let least : nat_le (digits_value radix digits) (greatest wide) ≡ true = le-leb _ _ (subst (λ n. n ≤ greatest wide) same fits) in
     rw (no, front, back, small_enough radix digits small, least, ← same) refl
@@ -92,14 +92,14 @@ hex_sound wide quote bytes found h =
     }
 
 letter_sound : (wide : Bool) (quote byte : ℕ) (bytes : List ℕ) (value : Option ℕ) (found : ℕ × List ℕ) → value_at escapes byte ≡ value → option_map {U = ℕ × List ℕ} (λ x. (x, bytes)) value ≡ Some found → HasItem wide quote (92 ∷ byte ∷ bytes) found
-letter_sound wide quote byte bytes None found at h = absurd (none_found h)
+letter_sound wide quote byte bytes None found at h = absurd (none-some _ h)
 letter_sound wide quote byte bytes (Some value) found at h =
     let same : (value, bytes) ≡ found = cc in
     subst (HasItem wide quote (92 ∷ byte ∷ bytes)) same (record { item = Letter byte; parts = refl; fits = at; ends = tt })
 
 escape_sound : (wide : Bool) (quote : ℕ) (bytes : List ℕ) (found : ℕ × List ℕ) → escape_at wide bytes ≡ Some found → HasItem wide quote (92 ∷ bytes) found
 unfolding escape_at
-escape_sound wide quote [] found h = absurd (none_found h)
+escape_sound wide quote [] found h = absurd (none-some _ h)
 escape_sound wide quote (byte ∷ bytes) found h =
     elim (chosen (is_octal byte) (numbered wide 8 (min 3 (prefix_len is_octal (byte ∷ bytes))) (byte ∷ bytes)) (cond (byte == 120) (numbered wide 16 (prefix_len is_ascii_hexdigit bytes) bytes) (option_map {U = ℕ × List ℕ} (λ x. (x, bytes)) (value_at escapes byte))) (Some found) h) [
       | inl a ↦ octal_sound wide quote (byte ∷ bytes) found a.1
@@ -115,19 +115,19 @@ wide_small false byte h is = absurd (false≢true is)
 
 plain_sound : (wide : Bool) (quote byte : ℕ) (bytes : List ℕ) (found : ℕ × List ℕ) → (byte == 92) ≡ false → is_plain wide quote byte ≡ true → (byte, bytes) ≡ found → HasItem wide quote (byte ∷ bytes) found
 plain_sound wide quote byte bytes found other is same =
-    let parts = or_parts (byte == quote || byte == 10) (wide && nat_le 128 byte) (not_false (byte == quote || byte == 10 || (wide && nat_le 128 byte)) is) in
+    let parts = or_parts (byte == quote || byte == 10) (wide && nat_le 128 byte) (not-true (byte == quote || byte == 10 || (wide && nat_le 128 byte)) is) in
     let two = or_parts (byte == quote) (byte == 10) parts.0 in
     subst (HasItem wide quote (byte ∷ bytes)) same
     (record { item = Plain byte; parts = refl; fits = (eqb-false byte quote two.0, eqb-false byte 92 other, eqb-false byte 10 two.1, wide_small wide byte parts.1, refl); ends = tt })
 
 pub item_sound : (wide : Bool) (quote : ℕ) (bytes : List ℕ) (found : ℕ × List ℕ) → item_at wide quote bytes ≡ Some found → HasItem wide quote bytes found
 unfolding item_at
-item_sound wide quote [] found h = absurd (none_found h)
+item_sound wide quote [] found h = absurd (none-some _ h)
 item_sound wide quote (byte ∷ bytes) found h =
     elim (chosen (byte == 92) (escape_at wide bytes) (cond (is_plain wide quote byte) (Some (byte, bytes)) None) (Some found) h) [
       | inl a ↦ subst (λ x. HasItem wide quote (x ∷ bytes) found) (sym (eqb-true byte 92 a.0)) (escape_sound wide quote bytes found a.1)
       | inr a ↦ elim (chosen (is_plain wide quote byte) (Some (byte, bytes)) None (Some found) a.1)
-          [ inl b ↦ plain_sound wide quote byte bytes found a.0 b.0 (let e = b.1 in cc) | inr b ↦ absurd (none_found b.1) ]
+          [ inl b ↦ plain_sound wide quote byte bytes found a.0 b.0 (let e = b.1 in cc) | inr b ↦ absurd (none-some _ b.1) ]
     ]
 
 at_row : (P : ℕ → ℕ → Type 0) (key byte value found : ℕ) (rest : Option ℕ) (b : Bool) → (key == byte) ≡ b → P key value → (rest ≡ Some found → P byte found) → cond b (Some value) rest ≡ Some found → P byte found
@@ -137,7 +137,7 @@ at_row P key byte value found rest true same p more h =
 at_row P key byte value found rest false same p more h = more h
 
 value_at_sound : (P : ℕ → ℕ → Type 0) (rows : List (ℕ × ℕ)) (byte found : ℕ) → AllByRecursion (λ row. P row.0 row.1) rows → value_at rows byte ≡ Some found → P byte found
-value_at_sound P [] byte found all h = absurd (none_found h)
+value_at_sound P [] byte found all h = absurd (none-some _ h)
 value_at_sound P (row ∷ rows) byte found all h = at_row P row.0 byte row.1 found (value_at rows byte) (row.0 == byte) refl all.0 (value_at_sound P rows byte found all.1) h
 
 -- no letter of an escape is an octal digit or an x
@@ -175,7 +175,7 @@ letter_full wide byte value after h =
 plain_full : (wide : Bool) (quote byte : ℕ) (after : List ℕ) → (byte ≡ quote → ⊥) → (byte ≡ 92 → ⊥) → (byte ≡ 10 → ⊥) → (wide ≡ true → byte < 128) → item_at wide quote (byte ∷ after) ≡ Some (byte, after)
 unfolding item_at
 plain_full wide quote byte after not_quote not_backslash not_feed small =
-    rw (neq-eqb byte 92 not_backslash, neq-eqb byte quote not_quote, neq-eqb byte 10 not_feed, wide_false wide byte small) refl
+    rw (ne_eqb byte 92 not_backslash, ne_eqb byte quote not_quote, ne_eqb byte 10 not_feed, wide_false wide byte small) refl
 
 pub item_full : (wide : Bool) (quote : ℕ) (item : Item) (value : ℕ) (after : List ℕ) → IsItem wide quote item value → Ends item after → item_at wide quote (item_text item ++ after) ≡ Some (value, after)
 unfolding item_at

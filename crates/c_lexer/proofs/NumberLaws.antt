@@ -1,6 +1,7 @@
 -- What is read as a number is one, and each number is read.
 use Rattle.std.proofs.Common.{◌≡◌, ◌⊎◌, inl, inr, ℕ, ◌^◌, ◌<◌, List, [], ◌∷◌, ◌++◌, Bool, true, false, ◌==◌, ◌||◌, cond, length, take, drop, refl, sym, ◌∙◌, ap, subst, arith}
-use Rattle.std.proofs.lemmas.Bool.{ltb-true, eqb-true, eqb-false, eq-eqb}
+use Rattle.std.proofs.lemmas.Bool.{ltb-true, eqb-true, eqb-false, eq-eqb, ne_eqb, or_cases}
+use Rattle.std.proofs.lemmas.Option.{none-some}
 use Rattle.std.proofs.lemmas.List.{take-append-drop}
 use Rattle.std.proofs.lemmas.List.Folds.{length-prefix_len}
 use Rattle.std.proofs.Math.Seq.{take-append_seam, drop-append_seam}
@@ -14,15 +15,15 @@ use Rattle.c_lexer.specs.Classes.{is_in}
 use Rattle.c_lexer.specs.Lookup.{lookup}
 use Rattle.c_lexer.specs.Numbers.{radix, digits_of, is_decimal, suffixes, IsPrefix, IsFirst, IsConstant, IsNumber}
 use Rattle.c_lexer.specs.ReadNumber.{value_of, with_suffix, with_value, constant, number_of}
-use Rattle.c_lexer.proofs.Tables.{lookup_sound}
+use Rattle.c_lexer.proofs.Tables.{lookup_true}
 use Rattle.c_lexer.proofs.Values.{small_enough}
-use Rattle.c_lexer.proofs.Cases.{chosen, either, neq-eqb, none_found}
+use Rattle.c_lexer.proofs.Cases.{chosen}
 use Rattle.c_lexer.proofs.Runs.{run_all, run_whole}
 
 pub value_sound : (base value : ℕ) (digits : List ℕ) → value_of base digits ≡ Some value → (digits_value base digits < 2 ^ 64) × (value ≡ digits_value base digits)
 value_sound base value digits h =
     elim (chosen (nat_lt (digits_value base digits) (2 ^ 64)) (Some (digits_value base digits)) None (Some value) h)
-    [ inl a ↦ (ltb-true _ _ a.0, (let e = a.1 in cc)) | inr a ↦ absurd (none_found a.1) ]
+    [ inl a ↦ (ltb-true _ _ a.0, (let e = a.1 in cc)) | inr a ↦ absurd (none-some _ a.1) ]
 
 -- what the parts of a number are, from what was read of them
 pub record Read (base : Base) (digits suffix : List ℕ) (number : Number) : Type 0 where
@@ -33,13 +34,13 @@ pub record Read (base : Base) (digits suffix : List ℕ) (number : Number) : Typ
 
 suffix_sound : (base : Base) (value : ℕ) (digits suffix : List ℕ) (found : Option (Bool × ℕ)) (number : Number) → lookup suffixes suffix ≡ found → digits_value (radix base) digits < 2 ^ 64 → value ≡ digits_value (radix base) digits
     → with_suffix base value found ≡ Some number → Read base digits suffix number
-suffix_sound base value digits suffix None number at fits is h = absurd (none_found h)
+suffix_sound base value digits suffix None number at fits is h = absurd (none-some _ h)
 suffix_sound base value digits suffix (Some s) number at fits is h =
     let same : record { value = value; decimal = is_decimal base; unsigned = s.0; longs = s.1 } ≡ number = cc in
     subst (Read base digits suffix) same (record { ending = at; value = is; fits = fits; notation = refl })
 
 value_read : (base : Base) (digits suffix : List ℕ) (found : Option ℕ) (number : Number) → value_of (radix base) digits ≡ found → with_value base found suffix ≡ Some number → Read base digits suffix number
-value_read base digits suffix None number at h = absurd (none_found h)
+value_read base digits suffix None number at h = absurd (none-some _ h)
 value_read base digits suffix (Some value) number at h =
     let v = value_sound (radix base) value digits at in
     suffix_sound base value digits suffix (lookup suffixes suffix) number refl v.0 v.1 h
@@ -50,7 +51,7 @@ constant_sound base text number h =
     let p = is_in (digits_of base) in
     let count = prefix_len (is_in (digits_of base)) text in
     elim (chosen (count == 0) None (with_value base (value_of (radix base) (take count text)) (drop count text)) (Some number) h) [
-      | inl a ↦ absurd (none_found a.1)
+      | inl a ↦ absurd (none-some _ a.1)
       | inr a ↦
           let r = value_read base (take count text) (drop count text) (value_of (radix base) (take count text)) number refl a.1 in
           record {
@@ -68,9 +69,9 @@ constant_sound base text number h =
 
 -- no suffix begins with a digit
 suffix_ends : (base : Base) (suffix : List ℕ) (s : Bool × ℕ) → lookup suffixes suffix ≡ Some s → prefix_len (is_in (digits_of base)) suffix ≡ 0
-suffix_ends Decimal suffix s h = lookup_sound (λ t x. prefix_len (is_in (digits_of Decimal)) t ≡ 0) suffixes suffix s (refl, (refl, (refl, (refl, (refl, (refl, (refl, (refl, (refl, (refl, (refl, (refl, (refl, (refl, (refl, (refl, (refl, (refl, (refl, (refl, (refl, (refl, (refl, tt))))))))))))))))))))))) h
-suffix_ends Octal suffix s h = lookup_sound (λ t x. prefix_len (is_in (digits_of Octal)) t ≡ 0) suffixes suffix s (refl, (refl, (refl, (refl, (refl, (refl, (refl, (refl, (refl, (refl, (refl, (refl, (refl, (refl, (refl, (refl, (refl, (refl, (refl, (refl, (refl, (refl, (refl, tt))))))))))))))))))))))) h
-suffix_ends Hexadecimal suffix s h = lookup_sound (λ t x. prefix_len (is_in (digits_of Hexadecimal)) t ≡ 0) suffixes suffix s (refl, (refl, (refl, (refl, (refl, (refl, (refl, (refl, (refl, (refl, (refl, (refl, (refl, (refl, (refl, (refl, (refl, (refl, (refl, (refl, (refl, (refl, (refl, tt))))))))))))))))))))))) h
+suffix_ends Decimal suffix s h = eqb-true _ 0 (lookup_true (λ t. prefix_len (is_in (digits_of Decimal)) t == 0) suffixes suffix s refl h)
+suffix_ends Octal suffix s h = eqb-true _ 0 (lookup_true (λ t. prefix_len (is_in (digits_of Octal)) t == 0) suffixes suffix s refl h)
+suffix_ends Hexadecimal suffix s h = eqb-true _ 0 (lookup_true (λ t. prefix_len (is_in (digits_of Hexadecimal)) t == 0) suffixes suffix s refl h)
 
 assembled : (base : Base) (n : ℕ) (digits suffix : List ℕ) (number : Number) → (n == 0) ≡ false → Read base digits suffix number → cond (n == 0) None (with_value base (value_of (radix base) digits) suffix) ≡ Some number
 assembled base n digits suffix number some r = rw (some, small_enough (radix base) digits r.fits, r.ending, ← r.value, ← r.notation) refl
@@ -83,7 +84,7 @@ constant_full base text number c =
     let count : prefix_len p text ≡ length c.digits = ap (prefix_len p) c.parts ∙ run_whole p c.digits c.suffix c.each ends in
     let front : take (prefix_len p text) text ≡ c.digits = ap (λ n. take n text) count ∙ (ap (take (length c.digits)) c.parts ∙ take-append_seam c.digits c.suffix) in
     let back : drop (prefix_len p text) text ≡ c.suffix = ap (λ n. drop n text) count ∙ (ap (drop (length c.digits)) c.parts ∙ drop-append_seam c.digits c.suffix) in
-    let some : (prefix_len p text == 0) ≡ false = neq-eqb _ _ (λ (zero : prefix_len p text ≡ 0). let lt = c.some in omega (arith, zero, count, lt)) in
+    let some : (prefix_len p text == 0) ≡ false = ne_eqb _ _ (λ (zero : prefix_len p text ≡ 0). let lt = c.some in omega (arith, zero, count, lt)) in
     let r : Read base c.digits c.suffix number = record { ending = c.ending; value = c.value; fits = c.fits; notation = c.notation } in
     subst (λ t. cond (prefix_len p text == 0) None (with_value base (value_of (radix base) t) (drop (prefix_len p text) text)) ≡ Some number) (sym front)
     (subst (λ t. cond (prefix_len p text == 0) None (with_value base (value_of (radix base) c.digits) t) ≡ Some number) (sym back)
@@ -95,7 +96,7 @@ plain_sound base text number prefix first h =
 
 x_prefix : (b : ℕ) → (b == 120 || b == 88) ≡ true → (48 ∷ b ∷ [] ≡ codes "0x") ⊎ (48 ∷ b ∷ [] ≡ codes "0X")
 x_prefix b h =
-    elim (either (b == 120) (b == 88) h)
+    elim (or_cases (b == 120) (b == 88) h)
     [ inl e ↦ inl (ap (λ x. 48 ∷ x ∷ []) (eqb-true b 120 e)) | inr e ↦ inr (ap (λ x. 48 ∷ x ∷ []) (eqb-true b 88 e)) ]
 
 hex_sound : (text : List ℕ) (number : Number) → (slice_index text 0 == 48) ≡ true → (slice_index text 1 == 120 || slice_index text 1 == 88) ≡ true → constant Hexadecimal (drop 2 text) ≡ Some number → IsNumber text number
@@ -125,9 +126,9 @@ octal_X rest = refl
 no_x : (b : ℕ) (rest : List ℕ) (number : Number) → constant Octal (48 ∷ b ∷ rest) ≡ Some number → (t : Bool) → (b == 120 || b == 88) ≡ t → t ≡ false
 no_x b rest number h false is = refl
 no_x b rest number h true is =
-    elim (either (b == 120) (b == 88) is) [
-      | inl e ↦ absurd (none_found (sym (octal_x rest) ∙ (ap (λ x. constant Octal (48 ∷ x ∷ rest)) (sym (eqb-true b 120 e)) ∙ h)))
-      | inr e ↦ absurd (none_found (sym (octal_X rest) ∙ (ap (λ x. constant Octal (48 ∷ x ∷ rest)) (sym (eqb-true b 88 e)) ∙ h)))
+    elim (or_cases (b == 120) (b == 88) is) [
+      | inl e ↦ absurd (none-some _ (sym (octal_x rest) ∙ (ap (λ x. constant Octal (48 ∷ x ∷ rest)) (sym (eqb-true b 120 e)) ∙ h)))
+      | inr e ↦ absurd (none-some _ (sym (octal_X rest) ∙ (ap (λ x. constant Octal (48 ∷ x ∷ rest)) (sym (eqb-true b 88 e)) ∙ h)))
     ]
 
 octal_full : (text : List ℕ) (number : Number) → slice_index text 0 ≡ 48 → constant Octal text ≡ Some number → number_of text ≡ Some number
@@ -140,7 +141,7 @@ octal_full (a ∷ b ∷ rest) number first h =
 
 decimal_full : (text : List ℕ) (number : Number) → slice_index text 0 ≢ 48 → constant Decimal text ≡ Some number → number_of text ≡ Some number
 unfolding number_of
-decimal_full text number first h = rw (neq-eqb (slice_index text 0) 48 first) h
+decimal_full text number first h = rw (ne_eqb (slice_index text 0) 48 first) h
 
 hex_full : (before after : List ℕ) (number : Number) → (before ≡ codes "0x") ⊎ (before ≡ codes "0X") → constant Hexadecimal after ≡ Some number → number_of (before ++ after) ≡ Some number
 unfolding number_of
@@ -164,4 +165,4 @@ number_found text (Some number) h = number_sound text number (sym h)
 
 pub number_none : (text : List ℕ) (r : Option Number) → r ≡ number_of text → IfNone r ((number : Number) → IsNumber text number → ⊥)
 number_none text (Some number) h = tt
-number_none text None h = λ number is. none_found (h ∙ number_full text number is)
+number_none text None h = λ number is. none-some _ (h ∙ number_full text number is)

@@ -1,6 +1,6 @@
 -- Where a comment goes on behind a line, and pragmas.
 use Rattle.std.proofs.Common.{◌≡◌, ◌⊎◌, inl, inr, ℕ, zero, suc, ◌<◌, ◌≤◌, List, [], ◌∷◌, ◌++◌, Bool, true, false, ◌==◌, ◌||◌, ◌&&◌, cond, length, take, drop, get_or, ◌-◌, refl, sym, ◌∙◌, ap, subst, arith, append_assoc, length-append}
-use Rattle.std.proofs.lemmas.Bool.{and_parts, and_from, or_parts, eqb-true, eqb-false, eq-eqb, false≢true}
+use Rattle.std.proofs.lemmas.Bool.{and_parts, and_from, or_parts, eqb-true, eqb-false, eq-eqb, false≢true, ne_eqb, not-true, or_cases}
 use Rattle.std.proofs.Math.Seq.{take-length}
 use Rattle.std.specs.Prelude.{Option, Some, None, Ok, Err, not, codes, slice_index, ◌≢◌}
 use Rattle.std.specs.List.{prefix_len, list_all, flat_map}
@@ -10,7 +10,6 @@ use Rattle.c_lexer.specs.Comments.{NoClose, IsBlockComment, IsQuoted, IsInner}
 use Rattle.c_lexer.specs.Directives.{IsSingle, ArePieces, GoesOn, IsPragma}
 use Rattle.c_lexer.specs.ReadComment.{past_close, past_quote}
 use Rattle.c_lexer.specs.ReadDirective.{stripped, on, behind_close, behind_quote, past_piece, by_piece, goes_on_from, goes_on, ends_pragma, is_pragma}
-use Rattle.c_lexer.proofs.Cases.{either, neq-eqb, not_false}
 use Rattle.c_lexer.proofs.CommentLaws.{close_sound, close_none, quote_sound, quote_full}
 use Rattle.c_lexer.proofs.DirectiveLaws.{strip_sound, strip_full, on_true}
 
@@ -97,7 +96,7 @@ last_step : (byte : ℕ) (after : List ℕ) (go : List ℕ → Bool) (t : Bool) 
     → ((rest : List ℕ) → go rest ≡ true → GoesOn rest) → by_piece go (cond t (behind_quote (past_quote byte false after)) (Ok after)) ≡ true → GoesOn (byte ∷ after)
 last_step byte after go true line block quote all h =
     quote_more byte after (past_quote byte false after) go
-    (elim (either (byte == 34) (byte == 39) quote) [ inl e ↦ inl (eqb-true byte 34 e) | inr e ↦ inr (eqb-true byte 39 e) ]) refl all h
+    (elim (or_cases (byte == 34) (byte == 39) quote) [ inl e ↦ inl (eqb-true byte 34 e) | inr e ↦ inr (eqb-true byte 39 e) ]) refl all h
 last_step byte after go false line block quote all h = single_more byte after line block quote (all after h)
 
 block_step : (byte : ℕ) (after : List ℕ) (go : List ℕ → Bool) (t : Bool) → (byte == 47 && slice_index after 0 == 47) ≡ false → (byte == 47 && slice_index after 0 == 42) ≡ t
@@ -147,7 +146,7 @@ no_test byte n m h true is = (let both = and_parts (byte == 47) (n == m) is in a
 piece_single : (byte : ℕ) (rest : List ℕ) → byte ≢ 34 → byte ≢ 39 → (byte ≡ 47 → (slice_index rest 0 ≢ 47) × (slice_index rest 0 ≢ 42)) → past_piece byte rest ≡ Ok rest
 unfolding past_piece
 piece_single byte rest double single comment =
-    rw (no_test byte (slice_index rest 0) 47 (λ e. (comment e).0) (byte == 47 && slice_index rest 0 == 47) refl, no_test byte (slice_index rest 0) 42 (λ e. (comment e).1) (byte == 47 && slice_index rest 0 == 42) refl, neq-eqb byte 34 double, neq-eqb byte 39 single) refl
+    rw (no_test byte (slice_index rest 0) 47 (λ e. (comment e).0) (byte == 47 && slice_index rest 0 == 47) refl, no_test byte (slice_index rest 0) 42 (λ e. (comment e).1) (byte == 47 && slice_index rest 0 == 42) refl, ne_eqb byte 34 double, ne_eqb byte 39 single) refl
 
 turn : (n byte : ℕ) (after rest : List ℕ) → past_piece byte after ≡ Ok rest → suc (length rest) ≤ n → ((m : ℕ) → length rest ≤ m → goes_on_from m rest ≡ true) → goes_on_from n (byte ∷ after) ≡ true
 turn zero byte after rest at fits more = absurd (omega arith)
@@ -203,7 +202,7 @@ pragma_sound text h =
       parts = strip_sound (codes "pragma") text s.text s.is;
       word = eqb-true (prefix_len (is_in class.Word) s.text) 0 one.0;
       line_only = one.1;
-      within = λ g. false≢true (sym (not_false (goes_on s.text) two.1) ∙ goes_full s.text g);
+      within = λ g. false≢true (sym (not-true (goes_on s.text) two.1) ∙ goes_full s.text g);
     }
 
 not_on : (bytes : List ℕ) (t : Bool) → goes_on bytes ≡ t → (GoesOn bytes → ⊥) → not t ≡ true

@@ -1,9 +1,29 @@
--- The run of bytes of one class at the front.
-use Rattle.std.proofs.Common.{◌≡◌, ℕ, zero, suc, ◌+◌, ◌≤◌, List, [], ◌∷◌, ◌++◌, Bool, true, false, ◌==◌, ◌&&◌, cond, length, take, drop, refl, ap, arith}
+-- Bytes of one class, and the run of them at the front.
+use Rattle.std.proofs.Common.{◌≡◌, ℕ, zero, suc, ◌+◌, ◌≤◌, List, [], ◌∷◌, ◌++◌, Bool, true, false, ◌==◌, ◌&&◌, cond, length, take, drop, refl, ◌∙◌, ap, arith}
 use Rattle.std.proofs.Math.Numerals.{one-add}
-use Rattle.std.proofs.lemmas.Bool.{and_parts, and_from, eqb-true, eqb-false, eq-eqb}
+use Rattle.std.proofs.Math.Seq.{take-append_seam, drop-append_seam}
+use Rattle.std.proofs.lemmas.Bool.{and_parts, and_from, eqb-true, eqb-false, eq-eqb, ne_eqb}
+use Rattle.std.proofs.lemmas.List.Folds.{list_all-append}
 use Rattle.std.specs.List.{prefix_len, list_all}
-use Rattle.c_lexer.proofs.Cases.{neq-eqb}
+use Rattle.c_lexer.specs.declared.bytes.Class.TheVariants.{Line}
+use Rattle.c_lexer.specs.Classes.{is_in}
+use Rattle.c_lexer.specs.Parts.{EndsLine}
+
+pub all_weaker : (p q : ℕ → Bool) (xs : List ℕ) → ((x : ℕ) → p x ≡ true → q x ≡ true) → list_all p xs ≡ true → list_all q xs ≡ true
+all_weaker p q [] weaker all = refl
+all_weaker p q (x ∷ xs) weaker all =
+    let parts = and_parts (p x) (list_all p xs) all in
+    and_from _ _ (weaker x parts.0) (all_weaker p q xs weaker parts.1)
+
+pub all_joined : (p : ℕ → Bool) (xs ys : List ℕ) → list_all p xs ≡ true → list_all p ys ≡ true → list_all p (xs ++ ys) ≡ true
+all_joined p xs ys one other = list_all-append p xs ys ∙ and_from _ _ one other
+
+-- what is as long as the front is the front
+pub front_taken : (count : ℕ) (front rest : List ℕ) → count ≡ length front → take count (front ++ rest) ≡ front
+front_taken count front rest is = ap (λ n. take n (front ++ rest)) is ∙ take-append_seam front rest
+
+pub front_dropped : (count : ℕ) (front rest : List ℕ) → count ≡ length front → drop count (front ++ rest) ≡ rest
+front_dropped count front rest is = ap (λ n. drop n (front ++ rest)) is ∙ drop-append_seam front rest
 
 run_step : (p : ℕ → Bool) (x : ℕ) (xs : List ℕ) (b : Bool) → p x ≡ b → list_all p (take (prefix_len p xs) xs) ≡ true → list_all p (take (cond b (1 + prefix_len p xs) 0) (x ∷ xs)) ≡ true
 run_step p x xs true is more = rw one-add (and_from _ _ is more)
@@ -50,13 +70,18 @@ run_least p (d ∷ ds) rest all =
 
 eq_suc : (a b : ℕ) (t : Bool) → (a == b) ≡ t → (suc a == suc b) ≡ t
 eq_suc a b true h = eq-eqb (suc a) (suc b) (ap suc (eqb-true a b h))
-eq_suc a b false h = neq-eqb (suc a) (suc b) (λ (e : suc a ≡ suc b). eqb-false a b h (omega arith))
+eq_suc a b false h = ne_eqb (suc a) (suc b) (λ (e : suc a ≡ suc b). eqb-false a b h (omega arith))
 
 all_step : (p : ℕ → Bool) (x : ℕ) (xs : List ℕ) (b : Bool) → p x ≡ b → (prefix_len p xs == length xs) ≡ list_all p xs → (cond b (1 + prefix_len p xs) 0 == length (x ∷ xs)) ≡ (b && list_all p xs)
 all_step p x xs true is more = rw one-add (eq_suc (prefix_len p xs) (length xs) (list_all p xs) more)
-all_step p x xs false is more = neq-eqb 0 (suc (length xs)) (λ (e : 0 ≡ suc (length xs)). omega arith)
+all_step p x xs false is more = ne_eqb 0 (suc (length xs)) (λ (e : 0 ≡ suc (length xs)). omega arith)
 
 -- all are of the class where the run is whole
 pub run_is_all : (p : ℕ → Bool) (xs : List ℕ) → (prefix_len p xs == length xs) ≡ list_all p xs
 run_is_all p [] = refl
 run_is_all p (x ∷ xs) = all_step p x xs (p x) refl (run_is_all p xs)
+
+-- a line goes no further than its end
+pub line_ends : (rest : List ℕ) → EndsLine rest → prefix_len (is_in Line) rest ≡ 0
+line_ends [] ends = refl
+line_ends (byte ∷ rest) ends = ap (λ b. prefix_len (is_in Line) (b ∷ rest)) ends

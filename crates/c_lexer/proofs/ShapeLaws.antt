@@ -1,6 +1,6 @@
 -- A directive line is `#`, blanks and a shape; no shape begins with a blank.
 use Rattle.std.proofs.Common.{◌≡◌, inl, inr, ℕ, ◌≤◌, ◌<◌, List, [], ◌∷◌, ◌++◌, Bool, true, false, ◌==◌, ◌+◌, cond, length, drop, get_or, refl, sym, ◌∙◌, ap, subst, arith}
-use Rattle.std.proofs.lemmas.Bool.{and_parts, eqb-true, false≢true}
+use Rattle.std.proofs.lemmas.Bool.{and_parts, eqb-true, false≢true, or_cases}
 use Rattle.std.specs.Prelude.{IsTrue, ◌↔◌}
 use Rattle.std.specs.List.{prefix_len, list_all}
 use Rattle.std.specs.Char.{is_ascii_digit}
@@ -9,13 +9,12 @@ use Rattle.c_lexer.specs.Bytes.{is_blank}
 use Rattle.c_lexer.specs.Classes.{is_in}
 use Rattle.c_lexer.specs.Directives.{IsShape, IsDirective}
 use Rattle.c_lexer.specs.ReadDirective.{unblank}
-use Rattle.c_lexer.proofs.Cases.{either}
 use Rattle.c_lexer.proofs.DirectiveLaws.{blanks_of, unblank_parts, blanks_blank, unblank_full}
 
 digit_apart : (b : ℕ) (t : Bool) → is_ascii_digit b ≡ true → is_blank b ≡ t → t ≡ false
 digit_apart b false digit is = refl
 digit_apart b true digit is =
-    elim (either (b == 32) (b == 9) is)
+    elim (or_cases (b == 32) (b == 9) is)
     [ inl e ↦ absurd (false≢true (subst (λ x. is_ascii_digit x ≡ true) (eqb-true b 32 e) digit)) | inr e ↦ absurd (false≢true (subst (λ x. is_ascii_digit x ≡ true) (eqb-true b 9 e) digit)) ]
 
 number_begins : (number rest : List ℕ) → 0 < length number → list_all is_ascii_digit number ≡ true → prefix_len (is_in class.Blank) (number ++ rest) ≡ 0

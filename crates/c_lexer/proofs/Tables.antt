@@ -1,8 +1,9 @@
 -- What a table has, each row of it being right, is right.
-use Rattle.std.proofs.Common.{◌≡◌, ℕ, List, [], ◌∷◌, Bool, true, false, cond, refl, subst}
+use Rattle.std.proofs.Common.{◌≡◌, ℕ, List, [], ◌∷◌, inl, inr, Bool, true, false, cond, refl, subst}
 use Rattle.std.specs.Prelude.{Option, Some}
-use Rattle.std.specs.List.{AllByRecursion}
+use Rattle.std.specs.List.{AllByRecursion, list_all, list_any}
 use Rattle.std.specs.Str.{bytes_eq}
+use Rattle.std.proofs.lemmas.Bool.{and_parts, false≢true, or_cases}
 use Rattle.std.proofs.lemmas.Slice.Eq.{bytes_eq-Decides}
 use Rattle.c_lexer.specs.Lookup.{lookup}
 
@@ -15,3 +16,17 @@ found_row P key text value a rest false same p more h = more h
 pub lookup_sound : {A : Type 0} (P : List ℕ → A → Type 0) (rows : List (List ℕ × A)) (text : List ℕ) (a : A) → AllByRecursion (λ row. P row.0 row.1) rows → lookup rows text ≡ Some a → P text a
 lookup_sound P [] text a all h = absurd (cc)
 lookup_sound P (row ∷ rows) text a all h = found_row P row.0 text row.1 a (lookup rows text) (bytes_eq row.0 text) refl all.0 (lookup_sound P rows text a all.1) h
+
+-- the same of a test that each row passes
+pub lookup_true : {A : Type 0} (test : List ℕ → Bool) (rows : List (List ℕ × A)) (text : List ℕ) (a : A) → list_all (λ row. test row.0) rows ≡ true → lookup rows text ≡ Some a → test text ≡ true
+lookup_true test [] text a all h = absurd (cc)
+lookup_true test (row ∷ rows) text a all h =
+    let parts = and_parts (test row.0) (list_all (λ row. test row.0) rows) all in
+    found_row (λ t x. test t ≡ true) row.0 text row.1 a (lookup rows text) (bytes_eq row.0 text) refl parts.0 (lookup_true test rows text a parts.1) h
+
+pub listed_true : (test : List ℕ → Bool) (rows : List (List ℕ)) (text : List ℕ) → list_all test rows ≡ true → list_any (λ row. bytes_eq row text) rows ≡ true → test text ≡ true
+listed_true test [] text all h = absurd (false≢true h)
+listed_true test (row ∷ rows) text all h =
+    let parts = and_parts (test row) (list_all test rows) all in
+    elim (or_cases (bytes_eq row text) (list_any (λ row. bytes_eq row text) rows) h)
+    [ inl same ↦ subst (λ t. test t ≡ true) ((bytes_eq-Decides row text).0 same) parts.0 | inr later ↦ listed_true test rows text parts.1 later ]

@@ -1,13 +1,11 @@
 -- A text spells at most one token.
-use Rattle.std.proofs.Common.{◌≡◌, inl, inr, ℕ, ◌<◌, List, [], ◌∷◌, ◌++◌, Bool, true, false, ◌==◌, ◌||◌, ◌&&◌, cond, length, refl, sym, ◌∙◌, ap, subst, arith}
-use Rattle.std.proofs.lemmas.Bool.{and_parts, and_from, leb-true, le-leb, eqb-true, false≢true}
+use Rattle.std.proofs.Common.{◌≡◌, inl, inr, ℕ, ◌<◌, List, [], ◌∷◌, ◌++◌, Bool, true, false, ◌==◌, ◌||◌, ◌&&◌, cond, length, refl, sym, ◌∙◌, ap, arith}
+use Rattle.std.proofs.lemmas.Bool.{and_parts, and_from, and_right, leb-true, le-leb, eqb-true, false≢true, ne_eqb}
 use Rattle.std.specs.Prelude.{Result, Ok, Err, IfOk, IfSome, ℤ, Option, Some, None, is_some, slice_index, nat_le}
 use Rattle.std.specs.List.{list_all}
 use Rattle.std.specs.Char.{is_ascii_digit}
 use Rattle.c_lexer.specs.declared.word.Word.{Word}
-use Rattle.c_lexer.specs.declared.word.Word.TheVariants as w
 use Rattle.c_lexer.specs.declared.punct.Punct.{Punct}
-use Rattle.c_lexer.specs.declared.punct.Punct.TheVariants as p
 use Rattle.c_lexer.specs.declared.number.Base.{Base}
 use Rattle.c_lexer.specs.declared.number.Base.TheVariants.{Decimal, Octal, Hexadecimal}
 use Rattle.c_lexer.specs.declared.number.Number.{Number}
@@ -15,14 +13,16 @@ use Rattle.c_lexer.specs.declared.token.Body.{Body}
 use Rattle.c_lexer.specs.declared.token.Body.TheVariants as body
 use Rattle.c_lexer.specs.Bytes.{is_letter, is_word_byte, is_octal}
 use Rattle.c_lexer.specs.Lookup.{lookup}
-use Rattle.c_lexer.specs.Words.{word_text, word_of}
+use Rattle.c_lexer.specs.Words.{word_text, words, word_of, outside_words, is_outside}
 use Rattle.c_lexer.specs.Marks.{mark_text, marks}
 use Rattle.c_lexer.specs.Numbers.{IsPrefix, IsConstant}
 use Rattle.c_lexer.specs.Characters.{IsCharacter, IsLiteral}
 use Rattle.c_lexer.specs.ReadNumber.{number_of}
 use Rattle.c_lexer.specs.ReadCharacters.{character_of, literal_of}
 use Rattle.c_lexer.specs.Parts.{IsName, IsToken}
-use Rattle.c_lexer.proofs.Cases.{neq-eqb}
+use Rattle.c_lexer.proofs.Cases.{other_byte}
+use Rattle.c_lexer.proofs.Tables.{lookup_true, listed_true}
+use Rattle.c_lexer.proofs.MarkLaws.{mark_full}
 use Rattle.c_lexer.proofs.WordLaws.{word_sound, word_full}
 use Rattle.c_lexer.proofs.NumberLaws.{number_full}
 use Rattle.c_lexer.proofs.CharacterLaws.{character_full, literal_full}
@@ -46,166 +46,32 @@ tag_of (body.Mark mark) = 5
 
 word_tag : (word : Word) → tag (word_text word) ≡ 0
 unfolding tag quoted word_of
-word_tag w.Auto = refl
-word_tag w.Break = refl
-word_tag w.Case = refl
-word_tag w.Char = refl
-word_tag w.Const = refl
-word_tag w.Continue = refl
-word_tag w.Default = refl
-word_tag w.Do = refl
-word_tag w.Else = refl
-word_tag w.Enum = refl
-word_tag w.Extern = refl
-word_tag w.For = refl
-word_tag w.If = refl
-word_tag w.Inline = refl
-word_tag w.Int = refl
-word_tag w.Long = refl
-word_tag w.Register = refl
-word_tag w.Restrict = refl
-word_tag w.Return = refl
-word_tag w.Short = refl
-word_tag w.Signed = refl
-word_tag w.Sizeof = refl
-word_tag w.Static = refl
-word_tag w.Struct = refl
-word_tag w.Switch = refl
-word_tag w.Typedef = refl
-word_tag w.Union = refl
-word_tag w.Unsigned = refl
-word_tag w.Void = refl
-word_tag w.Volatile = refl
-word_tag w.While = refl
-word_tag w.Alignof = refl
-word_tag w.Bool = refl
-word_tag w.StaticAssert = refl
+word_tag word = eqb-true (tag (word_text word)) 0 (lookup_true (λ t. tag t == 0) words (word_text word) word refl (word_full word))
 
 mark_tag : (mark : Punct) → tag (mark_text mark) ≡ 5
 unfolding tag quoted word_of
-mark_tag p.OpenBracket = refl
-mark_tag p.CloseBracket = refl
-mark_tag p.OpenParen = refl
-mark_tag p.CloseParen = refl
-mark_tag p.OpenBrace = refl
-mark_tag p.CloseBrace = refl
-mark_tag p.Dot = refl
-mark_tag p.Arrow = refl
-mark_tag p.Increment = refl
-mark_tag p.Decrement = refl
-mark_tag p.Ampersand = refl
-mark_tag p.Star = refl
-mark_tag p.Plus = refl
-mark_tag p.Minus = refl
-mark_tag p.Tilde = refl
-mark_tag p.Exclamation = refl
-mark_tag p.Slash = refl
-mark_tag p.Percent = refl
-mark_tag p.ShiftLeft = refl
-mark_tag p.ShiftRight = refl
-mark_tag p.Less = refl
-mark_tag p.Greater = refl
-mark_tag p.LessEqual = refl
-mark_tag p.GreaterEqual = refl
-mark_tag p.Equal = refl
-mark_tag p.NotEqual = refl
-mark_tag p.Caret = refl
-mark_tag p.Bar = refl
-mark_tag p.AndAnd = refl
-mark_tag p.OrOr = refl
-mark_tag p.Question = refl
-mark_tag p.Colon = refl
-mark_tag p.Semicolon = refl
-mark_tag p.Ellipsis = refl
-mark_tag p.Assign = refl
-mark_tag p.StarAssign = refl
-mark_tag p.SlashAssign = refl
-mark_tag p.PercentAssign = refl
-mark_tag p.PlusAssign = refl
-mark_tag p.MinusAssign = refl
-mark_tag p.ShiftLeftAssign = refl
-mark_tag p.ShiftRightAssign = refl
-mark_tag p.AmpersandAssign = refl
-mark_tag p.CaretAssign = refl
-mark_tag p.BarAssign = refl
-mark_tag p.Comma = refl
+mark_tag mark = eqb-true (tag (mark_text mark)) 5 (lookup_true (λ t. tag t == 5) marks (mark_text mark) mark refl (mark_full mark))
 
-mark_full : (mark : Punct) → lookup marks (mark_text mark) ≡ Some mark
-mark_full p.OpenBracket = refl
-mark_full p.CloseBracket = refl
-mark_full p.OpenParen = refl
-mark_full p.CloseParen = refl
-mark_full p.OpenBrace = refl
-mark_full p.CloseBrace = refl
-mark_full p.Dot = refl
-mark_full p.Arrow = refl
-mark_full p.Increment = refl
-mark_full p.Decrement = refl
-mark_full p.Ampersand = refl
-mark_full p.Star = refl
-mark_full p.Plus = refl
-mark_full p.Minus = refl
-mark_full p.Tilde = refl
-mark_full p.Exclamation = refl
-mark_full p.Slash = refl
-mark_full p.Percent = refl
-mark_full p.ShiftLeft = refl
-mark_full p.ShiftRight = refl
-mark_full p.Less = refl
-mark_full p.Greater = refl
-mark_full p.LessEqual = refl
-mark_full p.GreaterEqual = refl
-mark_full p.Equal = refl
-mark_full p.NotEqual = refl
-mark_full p.Caret = refl
-mark_full p.Bar = refl
-mark_full p.AndAnd = refl
-mark_full p.OrOr = refl
-mark_full p.Question = refl
-mark_full p.Colon = refl
-mark_full p.Semicolon = refl
-mark_full p.Ellipsis = refl
-mark_full p.Assign = refl
-mark_full p.StarAssign = refl
-mark_full p.SlashAssign = refl
-mark_full p.PercentAssign = refl
-mark_full p.PlusAssign = refl
-mark_full p.MinusAssign = refl
-mark_full p.ShiftLeftAssign = refl
-mark_full p.ShiftRightAssign = refl
-mark_full p.AmpersandAssign = refl
-mark_full p.CaretAssign = refl
-mark_full p.BarAssign = refl
-mark_full p.Comma = refl
-
-letter_no_digit : (b : ℕ) (t : Bool) → is_letter b ≡ true → is_ascii_digit b ≡ t → t ≡ false
+pub letter_no_digit : (b : ℕ) (t : Bool) → is_letter b ≡ true → is_ascii_digit b ≡ t → t ≡ false
 letter_no_digit b false letter is = refl
 letter_no_digit b true letter is = grind (arith, letter, is)
-
-no_quote : (quote b : ℕ) (t : Bool) → is_word_byte quote ≡ false → is_word_byte b ≡ true → (b == quote) ≡ t → t ≡ false
-no_quote quote b false not_word is_word is = refl
-no_quote quote b true not_word is_word is = absurd (false≢true (sym not_word ∙ subst (λ x. is_word_byte x ≡ true) (eqb-true b quote is) is_word))
 
 no_word : (text : List ℕ) (o : Option Word) → word_of text ≡ o → ((word : Word) → text ≡ word_text word → ⊥) → is_some o ≡ false
 no_word text None at none = refl
 no_word text (Some word) at none = absurd (none word (word_sound text word at))
 
-and_last : (a b : Bool) → b ≡ false → (a && b) ≡ false
-and_last true b h = h
-and_last false b h = refl
-
 not_same : (quote : ℕ) → (quote ≡ 0 → ⊥) → (0 == quote) ≡ false
-not_same quote some = neq-eqb 0 quote (λ (e : 0 ≡ quote). some (sym e))
+not_same quote some = ne_eqb 0 quote (λ (e : 0 ≡ quote). some (sym e))
 
 name_unquoted : (quote : ℕ) (text : List ℕ) → is_word_byte quote ≡ false → is_word_byte 0 ≡ false → is_letter (slice_index text 0) ≡ true → list_all is_word_byte text ≡ true → (quote ≡ 0 → ⊥) → quoted quote text ≡ false
 unfolding quoted
 name_unquoted quote [] mark zero letter all some = absurd (false≢true letter)
 name_unquoted quote (a ∷ []) mark zero letter all some =
-    rw (no_quote quote a (a == quote) mark (and_parts (is_word_byte a) true all).0 refl) (and_last (a == 76) (0 == quote) (not_same quote some))
+    rw (other_byte is_word_byte quote a mark (and_parts (is_word_byte a) true all).0) (and_right (a == 76) (0 == quote) (not_same quote some))
 name_unquoted quote (a ∷ b ∷ text) mark zero letter all some =
     let first = and_parts (is_word_byte a) (list_all is_word_byte (b ∷ text)) all in
     let second = and_parts (is_word_byte b) (list_all is_word_byte text) first.1 in
-    rw (no_quote quote a (a == quote) mark first.0 refl) (and_last (a == 76) (b == quote) (no_quote quote b (b == quote) mark second.0 refl))
+    rw (other_byte is_word_byte quote a mark first.0) (and_right (a == 76) (b == quote) (other_byte is_word_byte quote b mark second.0))
 
 name_tag : (text : List ℕ) → IsName text → tag text ≡ 1
 unfolding tag
@@ -226,7 +92,7 @@ decimal_first : (digits suffix : List ℕ) → 0 < length digits → list_all is
 decimal_first [] suffix some all = absurd (omega (arith, some))
 decimal_first (b ∷ digits) suffix some all = (and_parts (is_ascii_digit b) (list_all is_ascii_digit digits) all).0
 
-octal_digit : (b : ℕ) → is_octal b ≡ true → is_ascii_digit b ≡ true
+pub octal_digit : (b : ℕ) → is_octal b ≡ true → is_ascii_digit b ≡ true
 octal_digit b h = and_from _ _ (and_parts (nat_le 48 b) (nat_le b 55) h).0 (le-leb b 57 (let le = leb-true b 55 (and_parts (nat_le 48 b) (nat_le b 55) h).1 in omega (arith, le)))
 
 octal_first : (digits suffix : List ℕ) → 0 < length digits → list_all is_octal digits ≡ true → is_ascii_digit (slice_index (digits ++ suffix) 0) ≡ true
@@ -238,7 +104,7 @@ first_digit Hexadecimal text number c no_hex = absurd (no_hex refl)
 first_digit Decimal text number c no_hex = ap (λ t. is_ascii_digit (slice_index t 0)) c.parts ∙ decimal_first c.digits c.suffix c.some c.each
 first_digit Octal text number c no_hex = ap (λ t. is_ascii_digit (slice_index t 0)) c.parts ∙ octal_first c.digits c.suffix c.some c.each
 
-number_first : (base : Base) (before after text : List ℕ) (number : Number) → text ≡ before ++ after → IsPrefix base before → IsConstant base after number → is_ascii_digit (slice_index text 0) ≡ true
+pub number_first : (base : Base) (before after text : List ℕ) (number : Number) → text ≡ before ++ after → IsPrefix base before → IsConstant base after number → is_ascii_digit (slice_index text 0) ≡ true
 number_first Decimal before after text number parts prefix c = ap (λ t. is_ascii_digit (slice_index t 0)) (parts ∙ ap (λ b. b ++ after) prefix) ∙ first_digit Decimal after number c (λ e. cc)
 number_first Octal before after text number parts prefix c = ap (λ t. is_ascii_digit (slice_index t 0)) (parts ∙ ap (λ b. b ++ after) prefix) ∙ first_digit Octal after number c (λ e. cc)
 number_first Hexadecimal before after text number parts (inl e) c = ap (λ t. is_ascii_digit (slice_index t 0)) (parts ∙ ap (λ b. b ++ after) e)
@@ -274,43 +140,31 @@ apart_tags text a b is also = sym (tag_is text a is) ∙ tag_is text b also
 -- a text spells at most one token
 pub one_token : (text : List ℕ) (a b : Body) → IsToken text a → IsToken text b → a ≡ b
 one_token text (body.Word a) (body.Word b) is also = ap body.Word (same_found (word_of text) a b (ap word_of is ∙ word_full a) (ap word_of also ∙ word_full b))
-one_token text (body.Word a) (body.Name b) is also = absurd (omega (arith, apart_tags text (body.Word a) (body.Name b) is also))
-one_token text (body.Word a) (body.Number b) is also = absurd (omega (arith, apart_tags text (body.Word a) (body.Number b) is also))
-one_token text (body.Word a) (body.Character b n) is also = absurd (omega (arith, apart_tags text (body.Word a) (body.Character b n) is also))
-one_token text (body.Word a) (body.Literal b n) is also = absurd (omega (arith, apart_tags text (body.Word a) (body.Literal b n) is also))
-one_token text (body.Word a) (body.Mark b) is also = absurd (omega (arith, apart_tags text (body.Word a) (body.Mark b) is also))
-one_token text (body.Name a) (body.Word b) is also = absurd (omega (arith, apart_tags text (body.Name a) (body.Word b) is also))
 one_token text (body.Name a) (body.Name b) is also = ap body.Name (is.0 ∙ sym also.0)
-one_token text (body.Name a) (body.Number b) is also = absurd (omega (arith, apart_tags text (body.Name a) (body.Number b) is also))
-one_token text (body.Name a) (body.Character b n) is also = absurd (omega (arith, apart_tags text (body.Name a) (body.Character b n) is also))
-one_token text (body.Name a) (body.Literal b n) is also = absurd (omega (arith, apart_tags text (body.Name a) (body.Literal b n) is also))
-one_token text (body.Name a) (body.Mark b) is also = absurd (omega (arith, apart_tags text (body.Name a) (body.Mark b) is also))
-one_token text (body.Number a) (body.Word b) is also = absurd (omega (arith, apart_tags text (body.Number a) (body.Word b) is also))
-one_token text (body.Number a) (body.Name b) is also = absurd (omega (arith, apart_tags text (body.Number a) (body.Name b) is also))
 one_token text (body.Number a) (body.Number b) is also = ap body.Number (same_found (number_of text) a b (number_full text a is) (number_full text b also))
-one_token text (body.Number a) (body.Character b n) is also = absurd (omega (arith, apart_tags text (body.Number a) (body.Character b n) is also))
-one_token text (body.Number a) (body.Literal b n) is also = absurd (omega (arith, apart_tags text (body.Number a) (body.Literal b n) is also))
-one_token text (body.Number a) (body.Mark b) is also = absurd (omega (arith, apart_tags text (body.Number a) (body.Mark b) is also))
-one_token text (body.Character a m) (body.Word b) is also = absurd (omega (arith, apart_tags text (body.Character a m) (body.Word b) is also))
-one_token text (body.Character a m) (body.Name b) is also = absurd (omega (arith, apart_tags text (body.Character a m) (body.Name b) is also))
-one_token text (body.Character a m) (body.Number b) is also = absurd (omega (arith, apart_tags text (body.Character a m) (body.Number b) is also))
 one_token text (body.Character a m) (body.Character b n) is also = (let same = same_pair (a, m) (b, n) (same_found (character_of text) (a, m) (b, n) (character_full text a m is) (character_full text b n also)) in ap (λ v. body.Character v m) same.0 ∙ ap (body.Character b) same.1)
-one_token text (body.Character a m) (body.Literal b n) is also = absurd (omega (arith, apart_tags text (body.Character a m) (body.Literal b n) is also))
-one_token text (body.Character a m) (body.Mark b) is also = absurd (omega (arith, apart_tags text (body.Character a m) (body.Mark b) is also))
-one_token text (body.Literal a m) (body.Word b) is also = absurd (omega (arith, apart_tags text (body.Literal a m) (body.Word b) is also))
-one_token text (body.Literal a m) (body.Name b) is also = absurd (omega (arith, apart_tags text (body.Literal a m) (body.Name b) is also))
-one_token text (body.Literal a m) (body.Number b) is also = absurd (omega (arith, apart_tags text (body.Literal a m) (body.Number b) is also))
-one_token text (body.Literal a m) (body.Character b n) is also = absurd (omega (arith, apart_tags text (body.Literal a m) (body.Character b n) is also))
 one_token text (body.Literal a m) (body.Literal b n) is also = (let same = same_pair (a, m) (b, n) (same_found (literal_of text) (a, m) (b, n) (literal_full text a m is) (literal_full text b n also)) in ap (λ v. body.Literal v m) same.0 ∙ ap (body.Literal b) same.1)
-one_token text (body.Literal a m) (body.Mark b) is also = absurd (omega (arith, apart_tags text (body.Literal a m) (body.Mark b) is also))
-one_token text (body.Mark a) (body.Word b) is also = absurd (omega (arith, apart_tags text (body.Mark a) (body.Word b) is also))
-one_token text (body.Mark a) (body.Name b) is also = absurd (omega (arith, apart_tags text (body.Mark a) (body.Name b) is also))
-one_token text (body.Mark a) (body.Number b) is also = absurd (omega (arith, apart_tags text (body.Mark a) (body.Number b) is also))
-one_token text (body.Mark a) (body.Character b n) is also = absurd (omega (arith, apart_tags text (body.Mark a) (body.Character b n) is also))
-one_token text (body.Mark a) (body.Literal b n) is also = absurd (omega (arith, apart_tags text (body.Mark a) (body.Literal b n) is also))
 one_token text (body.Mark a) (body.Mark b) is also = ap body.Mark (same_found (lookup marks text) a b (ap (lookup marks) is ∙ mark_full a) (ap (lookup marks) also ∙ mark_full b))
+one_token text a b is also = absurd (omega (arith, apart_tags text a b is also))
 
 pub only_one : {E : Type 0} (text : List ℕ) (r : Result (Option Body) E) → IfOk r (λ o. IfSome o (λ token. IsToken text token)) → IfOk r (λ o. IfSome o (λ token. (other : Body) → IsToken text other → other ≡ token))
 only_one text (Err e) h = tt
 only_one text (Ok None) h = tt
 only_one text (Ok (Some token)) h = λ other is. one_token text other token is h
+
+outside_tag : (text : List ℕ) → is_outside text ≡ true → tag text ≡ 1
+unfolding tag quoted word_of is_outside
+outside_tag text outside = eqb-true (tag text) 1 (listed_true (λ t. tag t == 1) outside_words text refl outside)
+
+-- a word that is not taken spells no token
+pub outside_token : (text : List ℕ) (token : Body) → is_outside text ≡ true → IsToken text token → ⊥
+outside_token text (body.Name name) outside is = false≢true (sym is.1.inside ∙ outside)
+outside_token text token outside is = omega (arith, outside_tag text outside, tag_is text token is)
+
+tag_number : (token : Body) → tag_of token ≡ 2 → (number : Number) × (token ≡ body.Number number)
+tag_number (body.Number number) h = (number, refl)
+tag_number token h = absurd (omega (arith, h))
+
+-- what begins with a digit spells a number or nothing
+pub digit_token : (text : List ℕ) (token : Body) → is_ascii_digit (slice_index text 0) ≡ true → IsToken text token → (number : Number) × (token ≡ body.Number number)
+digit_token text token digit is = tag_number token (sym (tag_is text token is) ∙ digit_tag text digit)

@@ -1,10 +1,10 @@
 -- The units of a literal, one item at a time.
 use Rattle.std.proofs.Common.{◌≡◌, ℕ, zero, suc, ◌<◌, ◌≤◌, List, [], ◌∷◌, ◌++◌, Bool, length, refl, sym, ◌∙◌, ap, subst, arith, append_assoc, length-append}
+use Rattle.std.proofs.lemmas.Option.{none-some}
 use Rattle.std.specs.Prelude.{ℤ, Option, Some, None, map}
 use Rattle.std.specs.List.{flat_map}
 use Rattle.c_lexer.specs.Characters.{Item, Plain, Letter, Octal, Hexadecimal, item_text, unit_of, AreItems, Ends}
 use Rattle.c_lexer.specs.ReadCharacters.{item_at, units_from, units_more, units_at}
-use Rattle.c_lexer.proofs.Cases.{none_found}
 use Rattle.c_lexer.proofs.ItemLaws.{item_sound, item_full}
 
 text_some : (item : Item) → 0 < length (item_text item)
@@ -41,7 +41,7 @@ fuel_same (suc n) (suc m) wide bytes small less = fuel_step n m wide bytes (item
 
 pub units_step : (wide : Bool) (bytes : List ℕ) (found : ℕ × List ℕ) → item_at wide 34 bytes ≡ Some found → units_at wide bytes ≡ (unit_of wide found.0 ∷ (units_at wide found.1).0, (units_at wide found.1).1)
 unfolding units_at
-units_step wide [] found h = absurd (none_found (sym (no_item wide) ∙ h))
+units_step wide [] found h = absurd (none-some _ (sym (no_item wide) ∙ h))
 units_step wide (b ∷ bytes) found h =
     let shorter = item_shorter wide 34 (b ∷ bytes) found h in
     ap (units_more (units_from (length bytes) wide) wide (b ∷ bytes)) h

@@ -1,10 +1,10 @@
 -- The table of words has each word of the language that is taken, and nothing else.
 use Rattle.std.proofs.Common.{◌≡◌, ℕ, List, refl, sym, ap, ◌∙◌}
+use Rattle.std.proofs.lemmas.Option.{none-some}
 use Rattle.std.specs.Prelude.{Option, Some, None, IfSome, IfNone}
 use Rattle.c_lexer.specs.declared.word.Word.{Word}
 use Rattle.c_lexer.specs.declared.word.Word.TheVariants as w
 use Rattle.c_lexer.specs.Words.{word_text, words, word_of}
-use Rattle.c_lexer.proofs.Cases.{none_found}
 use Rattle.c_lexer.proofs.Tables.{lookup_sound}
 
 pub word_sound : (text : List ℕ) (word : Word) → word_of text ≡ Some word → text ≡ word_text word
@@ -54,4 +54,4 @@ word_found text (Some word) h = word_sound text word (sym h)
 
 pub word_none : (text : List ℕ) (r : Option Word) → r ≡ word_of text → IfNone r ((word : Word) → text ≡ word_text word → ⊥)
 word_none text (Some word) h = tt
-word_none text None h = λ word is. let found = word_full word in absurd (none_found (h ∙ (ap word_of is ∙ found)))
+word_none text None h = λ word is. let found = word_full word in absurd (none-some _ (h ∙ (ap word_of is ∙ found)))

@@ -21,3 +21,7 @@ is_white byte = byte == 32 || (nat_le 9 byte && nat_le byte 13)
 -- space or tab
 abbrev pub is_blank : ℕ → Bool
 is_blank byte = byte == 32 || byte == 9
+
+-- a quote, single or double
+abbrev pub is_quote : ℕ → Bool
+is_quote byte = byte == 34 || byte == 39

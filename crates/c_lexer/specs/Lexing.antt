@@ -4,6 +4,7 @@ use Rattle.std.specs.List.{list_any}
 use Rattle.critical_table.specs.declared.pos.Pos.{Pos}
 use Rattle.critical_table.specs.declared.refusal.Refusal.{Refusal}
 use Rattle.critical_table.specs.declared.refusal.Refusal.TheVariants.{Char}
+use Rattle.c_lexer.specs.declared.place.Place.{Place}
 use Rattle.c_lexer.specs.declared.token.Token.{Token}
 use Rattle.c_lexer.specs.Stream.{Stream}
 use Rattle.c_lexer.specs.Parts.{Part, White, Spelled, part_text, IsPart}
@@ -17,12 +18,6 @@ behind_byte pos byte =
 abbrev pub behind : Pos → List ℕ → Pos
 behind pos [] = pos
 behind pos (byte ∷ bytes) = behind (behind_byte pos byte) bytes
-
--- how many bytes came before, the place in lines and columns, and whether only white space stands before it on its line
-pub record Place : Type 0 where
-  pub at : ℕ
-  pub pos : Pos
-  pub fresh : Bool
 
 abbrev pub start : Place
 start = record { at = 0; pos = record { line = 1; column = 1 }; fresh = true }

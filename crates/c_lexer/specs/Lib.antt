@@ -3,7 +3,6 @@ pub mod Classes
 pub mod Lookup
 pub mod Words
 pub mod Marks
-pub mod ReadMark
 pub mod Comments
 pub mod ReadComment
 pub mod Directives
@@ -16,3 +15,8 @@ pub mod Numbers
 pub mod ReadNumber
 pub mod Characters
 pub mod ReadCharacters
+pub mod ReadPart
+pub mod Open
+pub mod Placed
+pub mod Reading
+pub mod Feeding

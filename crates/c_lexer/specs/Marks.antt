@@ -1,5 +1,5 @@
 -- The spellings of the punctuators (6.4.6).
-use Rattle.std.specs.Prelude.{◌≡◌, ℕ, ◌≤◌, List, [], ◌∷◌, ◌++◌, codes, length, drop}
+use Rattle.std.specs.Prelude.{ℕ, List, [], ◌∷◌, codes}
 use Rattle.c_lexer.specs.declared.punct.Punct.{Punct}
 use Rattle.c_lexer.specs.declared.punct.Punct.TheVariants as p
 
@@ -52,7 +52,7 @@ mark_text p.CaretAssign = codes "^="
 mark_text p.BarAssign = codes "|="
 mark_text p.Comma = codes ","
 
--- each punctuator behind its spelling, longer ones first
+-- each punctuator behind its spelling
 abbrev pub marks : List (List ℕ × Punct)
 marks =
     (codes "...", p.Ellipsis)
@@ -101,9 +101,3 @@ marks =
     ∷ (codes ";", p.Semicolon)
     ∷ (codes "=", p.Assign)
     ∷ (codes ",", p.Comma) ∷ []
-
--- the mark stands at the front, so many bytes long, and no longer one does (6.4p4)
-pub record IsLongestMark (bytes : List ℕ) (mark : Punct) (count : ℕ) : Type 0 where
-  pub front : bytes ≡ mark_text mark ++ drop count bytes
-  pub count_is : count ≡ length (mark_text mark)
-  pub longest : (other : Punct) (after : List ℕ) → bytes ≡ mark_text other ++ after → length (mark_text other) ≤ count

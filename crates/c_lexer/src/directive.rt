@@ -3,7 +3,7 @@ ghost use Rattle.c_lexer.specs.Directives.{is_header, IsInclude, IsDefine, IsMar
 ghost use Rattle.c_lexer.specs.ReadDirective as spec;
 
 use crate::bytes::{Class, all_in, past, run_len};
-use crate::comment::find_quote;
+use crate::comment::past_quote;
 use crate::table::contains;
 
 const HEADERS: [&[u8]; 9] = [
@@ -92,7 +92,7 @@ fn read_define(text: &[u8]) -> bool
 fn ends_marker(after: &[u8]) -> bool
     ensures { result ≡ spec.ends_marker after.now }
 {
-    match find_quote(b'"', after) {
+    match past_quote(b'"', after) {
         None => false,
         Some(last) => all_in(Class::Spaced, last),
     }

@@ -1,7 +1,21 @@
-ghost use Rattle.std.specs.Prelude.{◌≡◌, ◌+◌, ◌<◌, ◌^◌, length};
+ghost use Rattle.std.specs.Prelude.{◌≡◌, ◌+◌, ◌<◌, ◌≤◌, ◌^◌, ◌==◌, length};
+ghost use Rattle.std.specs.List.{list_any};
+ghost use Rattle.c_lexer.specs.declared.token.Body.{Body};
+ghost use Rattle.c_lexer.specs.Parts.{White, Spelled};
+ghost use Rattle.c_lexer.specs.Placed.{IsPlaced};
 ghost use Rattle.c_lexer.specs.Lexing as spec;
 
 use critical_table::Pos;
+
+/// Where a part begins.
+#[derive(Clone, Copy, Debug, PartialEq, Eq)]
+pub(crate) struct Place {
+    /// How many bytes come before it.
+    pub at: u32,
+    pub pos: Pos,
+    /// Only white space stands before it on its line.
+    pub fresh: bool,
+}
 
 /// The place behind a byte: a line ends at a line feed, and columns count bytes from 1.
 fn behind_byte(pos: Pos, byte: u8) -> Pos
@@ -33,4 +47,53 @@ pub(crate) fn behind(pos: Pos, bytes: &[u8]) -> Pos
         place = behind_byte(place, *byte);
     }
     place
+}
+
+fn has_line_feed(text: &[u8]) -> bool
+    ensures { result ≡ list_any (λ byte. byte == 10) text.now }
+{
+    text.iter().any(|byte| *byte == b'\n')
+}
+
+impl Place {
+    /// Of the first byte of a unit.
+    pub(crate) const START: Place = Place {
+        at: 0,
+        pos: Pos { line: 1, column: 1 },
+        fresh: true,
+    };
+
+    /// The place behind a text that begins here: a token, or white space.
+    fn behind(self, text: &[u8], fresh: bool) -> Place
+        requires placed { IsPlaced self }
+        requires room { self.at + length text.now ≤ 4194304 }
+        ensures value { result ≡ record { at = self.at + length text.now; pos = spec.behind self.pos text.now; fresh = fresh } }
+        ensures placed { IsPlaced result }
+    {
+        Place {
+            at: self.at + text.len() as u32,
+            pos: behind(self.pos, text),
+            fresh,
+        }
+    }
+
+    /// The place behind white space that begins here.
+    pub(crate) fn behind_white(self, text: &[u8]) -> Place
+        requires placed { IsPlaced self }
+        requires room { self.at + length text.now ≤ 4194304 }
+        ensures value { result ≡ spec.place_behind self (White text.now) }
+        ensures placed { IsPlaced result }
+    {
+        self.behind(text, self.fresh || has_line_feed(text))
+    }
+
+    /// The place behind a token that begins here.
+    pub(crate) fn behind_token(self, text: &[u8]) -> Place
+        requires placed { IsPlaced self }
+        requires room { self.at + length text.now ≤ 4194304 }
+        ensures value { (body : Body) → result ≡ spec.place_behind self (Spelled text.now body) }
+        ensures placed { IsPlaced result }
+    {
+        self.behind(text, false)
+    }
 }

@@ -3,7 +3,7 @@ ghost use Rattle.c_lexer.specs.Directives.{IsPragma, IsShape, IsDirective};
 ghost use Rattle.c_lexer.specs.ReadDirective as spec;
 
 use crate::bytes::{Class, all_in, past, run_len};
-use crate::comment::{find_close, find_quote};
+use crate::comment::{past_close, past_quote};
 use crate::directive::{is_define, is_include, is_marker, strip};
 
 /// What follows the comment, the text between quotes or the byte at the front, or whether a comment goes on from here.
@@ -17,13 +17,13 @@ fn past_piece(byte: u8, after: &[u8]) -> Result<&[u8], bool>
         return Err(false);
     }
     if byte == b'/' && next == Some(b'*') {
-        return match find_close(&after[1..]) {
+        return match past_close(&after[1..]) {
             None => Err(true),
             Some(rest) => Ok(rest),
         };
     }
     if byte == b'"' || byte == b'\'' {
-        return match find_quote(byte, after) {
+        return match past_quote(byte, after) {
             None => Err(false),
             Some(rest) => Ok(rest),
         };

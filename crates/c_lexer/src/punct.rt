@@ -1,7 +1,10 @@
-ghost use Rattle.std.specs.Prelude.{◌≡◌, ℕ, List, ◌++◌, map, length, IfSome, IfNone};
-ghost use Rattle.c_lexer.specs.Marks.{mark_text, IsLongestMark};
-ghost use Rattle.c_lexer.specs.ReadMark as spec;
+ghost use Rattle.std.specs.Prelude.{◌≡◌, IfSome, IfNone};
+ghost use Rattle.c_lexer.specs.Lookup.{lookup};
+ghost use Rattle.c_lexer.specs.Marks.{mark_text, marks};
+ghost use Rattle.c_lexer.specs.ReadPart.{extends};
 ghost use Rattle.c_lexer.specs.declared.punct.Punct.{Punct};
+
+use crate::table::lookup;
 
 /// The punctuators (6.4.6) that are taken.
 #[derive(Clone, Copy, Debug, PartialEq, Eq)]
@@ -100,7 +103,7 @@ pub enum Punct {
     Comma,
 }
 
-/// Each punctuator and its spelling, longer ones first.
+/// Each punctuator and its spelling.
 const MARKS: [(&[u8], Punct); 46] = [
     (b"...", Punct::Ellipsis),
     (b"<<=", Punct::ShiftLeftAssign),
@@ -150,29 +153,29 @@ const MARKS: [(&[u8], Punct); 46] = [
     (b",", Punct::Comma),
 ];
 
-fn find(mut rows: &[(&[u8], Punct)], bytes: &[u8]) -> Option<(Punct, usize)>
-    ensures { result ≡ spec.measured (spec.first_of (map (λ row. (row.0.now, row.1)) rows.entry.now) bytes.now) }
+fn read_mark(text: &[u8]) -> Option<Punct>
+    ensures { result ≡ lookup marks text.now }
 {
-    while let [row, rest @ ..] = rows {
-        if bytes.starts_with(row.0) {
-            return Some((row.1, row.0.len()));
-        }
-        rows = rest;
+    lookup(&MARKS, text)
+}
+
+/// The punctuator that the whole text spells, if it spells one (6.4.6).
+pub(crate) fn mark_of(text: &[u8]) -> Option<Punct>
+    ensures found { IfSome result (λ mark. text.now ≡ mark_text mark) }
+    ensures none { IfNone result ((mark : Punct) → text.now ≡ mark_text mark → ⊥) }
+{
+    read_mark(text)
+}
+
+/// Whether the text and the byte behind it spell a punctuator.
+#[tactic(auto, unfolding(crate::specs::ReadPart::extends))]
+pub(crate) fn extends(text: &[u8], byte: u8) -> bool
+    ensures { result ≡ extends text.now byte }
+{
+    match text {
+        [] => read_mark(&[byte]).is_some(),
+        [first] => read_mark(&[*first, byte]).is_some(),
+        [first, second] => read_mark(&[*first, *second, byte]).is_some(),
+        _ => false,
     }
-    None
-}
-
-#[tactic(auto, unfolding(crate::specs::ReadMark::mark_at))]
-fn read_mark(bytes: &[u8]) -> Option<(Punct, usize)>
-    ensures { result ≡ spec.mark_at bytes.now }
-{
-    find(&MARKS, bytes)
-}
-
-/// The longest punctuator at the front, and its length, if one stands there (6.4p4, 6.4.6).
-pub(crate) fn mark_at(bytes: &[u8]) -> Option<(Punct, usize)>
-    ensures found { IfSome result (λ found. IsLongestMark bytes.now found.0 found.1) }
-    ensures none { IfNone result ((mark : Punct) (after : List ℕ) → bytes.now ≡ mark_text mark ++ after → ⊥) }
-{
-    read_mark(bytes)
 }

@@ -10,7 +10,7 @@ ghost use Rattle.c_lexer.specs.declared.token.Body.{Body};
 use crate::bytes::{Class, all_in, is_letter};
 use crate::characters::{character_of, literal_of};
 use crate::number::number_of;
-use crate::punct::{Punct, mark_at};
+use crate::punct::mark_of;
 use crate::token::Body;
 use crate::units::Units;
 use crate::word::{is_outside, word_of};
@@ -24,23 +24,6 @@ fn is_identifier(text: &[u8]) -> bool
     match text {
         [] => false,
         [first, ..] => is_letter(*first) && (all_in(Class::Word, text) && !is_outside(text)),
-    }
-}
-
-/// The punctuator that the whole text spells, if it spells one (6.4.6).
-fn mark_of(text: &[u8]) -> Option<Punct>
-    ensures found { IfSome result (λ mark. text.now ≡ mark_text mark) }
-    ensures none { IfNone result ((mark : Punct) → text.now ≡ mark_text mark → ⊥) }
-{
-    match mark_at(text) {
-        None => None,
-        Some((mark, count)) => {
-            if count == text.len() {
-                Some(mark)
-            } else {
-                None
-            }
-        }
     }
 }
 

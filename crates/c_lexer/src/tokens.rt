@@ -42,6 +42,13 @@ impl Tokens {
         self.tokens.get(index)
     }
 
+    /// The tokens in order.
+    pub fn as_slice(&self) -> &[Token]
+        ensures { result.now ≡ self.now.tokens }
+    {
+        self.tokens.as_slice()
+    }
+
     /// The place behind the last byte of the unit.
     pub fn end(&self) -> Pos
         ensures { result ≡ self.now.end }
