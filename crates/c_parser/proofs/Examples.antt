@@ -18,22 +18,22 @@ abbrev pub here : Pos
 here = record { line = 1; column = 1 }
 
 -- a scope where T is a type, and one where an inner declaration hides it
-abbrev typed : Scope
+abbrev pub typed : Scope
 typed = record { name = codes "T"; names_type = true } ∷ []
 
-abbrev hidden : Scope
+abbrev pub hidden : Scope
 hidden = typed ++ record { name = codes "T"; names_type = false } ∷ []
 
-abbrev a : Expr
+abbrev pub a : Expr
 a = Id here (codes "a")
 
-abbrev t : Expr
+abbrev pub t : Expr
 t = Id here (codes "T")
 
 abbrev minus : Expr → Expr → Expr
 minus left right = Infix' here (between.Arithmetic Subtract) left right
 
-abbrev times : Expr → Expr → Expr
+abbrev pub times : Expr → Expr → Expr
 times left right = Infix' here (between.Arithmetic Multiply) left right
 
 -- ---- precedence and association
@@ -80,7 +80,7 @@ product = (omega arith, refl, refl)
 pub product_of_type : IsExpr (times t a) typed expression → ⊥
 product_of_type is = cc (is.1)
 
-abbrev named : Specifiers
+abbrev pub named : Specifiers
 named = MoreSpecifiers (TypedefName here (codes "T")) NoSpecifier
 
 -- (T) - a

@@ -6,4 +6,5 @@ pub mod HeightLaws
 pub mod Parts
 pub mod PartsUnit
 pub mod Rows
+pub mod ScopeExamples
 pub mod UnitExamples
