@@ -100,7 +100,7 @@ first_specifier (EnumTag pos tag) scope is = refl
 first_specifier (Enum pos tag enumerators comma) scope is = refl
 first_specifier (TypedefName pos x) scope is = is
 
-some_type : SpecifyOneType NoSpecifier → ⊥
+pub some_type : SpecifyOneType NoSpecifier → ⊥
 some_type (inl one) = omega (arith, one.0)
 some_type (inr one) = omega (arith, one.1)
 

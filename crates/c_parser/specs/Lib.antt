@@ -16,3 +16,10 @@ pub mod WellFormedUnit
 pub mod Begin
 pub mod Parsing
 pub mod First
+pub mod Reader
+pub mod ReadToken
+pub mod ReadExpr
+pub mod ReadDeclarator
+pub mod ReadSpecifier
+pub mod ReadBody
+pub mod Form

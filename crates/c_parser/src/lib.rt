@@ -21,7 +21,7 @@ pub use declaration::{Assert, Declaration, InitDeclarator};
 pub use declarator::{Declarator, Parameter};
 pub use expression::{Constant, Expr, Literals};
 pub use initializer::{Initializer, Item};
-pub use law::{answer_law, first_token_law, height_law, spelling_law};
+pub use law::{answer_law, first_token_law, height_law, one_tree_law, spelling_law};
 pub use operator::{Access, Arithmetic, Comparison, Infix, Measure, Postfix, Prefix};
 pub use specifier::{
     BasicWord, CompoundWord, Enumerator, MemberDeclaration, Qualifier, Specifier, Storage, Tag,
