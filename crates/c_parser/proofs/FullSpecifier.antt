@@ -22,10 +22,10 @@ use Rattle.c_parser.specs.Tokens.{mark, name_at, word_at, commas, comma_if}
 use Rattle.c_parser.specs.Tree.{Without, With, Storage', Qualifier', Inline, BasicWord', CompoundTag, Compound, EnumTag, Enum, TypedefName, MemberDeclaration, Declares, Members, NoMember, MoreMembers, Enumerator, Enumerates, Enumerators, NoEnumerator, MoreEnumerators}
 use Rattle.c_parser.specs.View.{members, enumerators}
 use Rattle.c_parser.specs.WellFormed.{HasMember, HasEnumerator, AreMembers, IsEnumerator, AreEnumerators}
-use Rattle.c_parser.proofs.Again.{front, then_read, look_at, read_at, deeper_again, exactly_again, wanted_again, Each, many_again, Behind, listed_again, behind_commas, behind_seen}
+use Rattle.c_parser.proofs.Again.{front, then_read, look_at, read_at, deeper_again, exactly_again, Each, many_again, Behind, listed_again, behind_commas, behind_seen}
 use Rattle.c_parser.proofs.Ends.{ends_closed, ends_infix}
 use Rattle.c_parser.proofs.FirstLaws.{first_member}
-use Rattle.c_parser.proofs.FirstTokens.{first_seen, first_shorter, expr_begins}
+use Rattle.c_parser.proofs.FirstTokens.{first_seen, first_shorter}
 use Rattle.c_parser.proofs.Full.{EndsExpr, AllFull}
 use Rattle.c_parser.proofs.FullSpecifiers.{StepFull, ReadsWords, storage_again, qualifier_again, inline_again, basic_again}
 use Rattle.c_parser.proofs.HeightLaws.{expr_high}
@@ -150,7 +150,7 @@ module _ (k : ℕ) (low : Readers) (full : AllFull k low) where
       let reads = full.expr scope conditional value (tail (tail tokens)) rest (omega arith) is high (value_ends rest ends) g.2 in
       read_at (λ pos o. enumerator_by k low scope pos (name_of o)) tokens pos _ _ f.1 f.0
       (ap (λ o. value_by k low scope pos x (is_mark p.Assign o) (tail tokens)) g.0
-      ∙ then_read _ _ value rest _ (wanted_again scope k (low.expr scope conditional) (tail (tail tokens)) _ (expr_begins value scope conditional (tail (tail tokens)) rest is g.2) some reads) refl)
+      ∙ deeper_again k _ (tail tokens) _ some (then_read _ _ value rest _ reads refl))
 
   behind_enumerators : (all : Enumerators) (comma : Bool) (scope : Scope) (tokens mid rest : List Token) → AreEnumerators all scope → enumerators_height all ≤ k → seen rest ≡ Some (body.Mark p.CloseBrace)
       → Takes tokens (behind_commas (spelled_enumerators all)) mid → Takes mid (comma_if comma) rest

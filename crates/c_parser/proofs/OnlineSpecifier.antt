@@ -21,7 +21,6 @@ use Rattle.c_parser.specs.Tree.{Specifier, Storage', Qualifier', Inline, BasicWo
 use Rattle.c_parser.specs.View.{specifiers, members, enumerators}
 use Rattle.c_parser.proofs.OnlineTools.{Online, TakesOne, online_give, online_stop, online_skip, online_look, online_here, online_deeper, online_bind, online_before, takes_stop, takes_skip, takes_look, takes_here, takes_bind, go_online, turn_online, many_online, listed_online}
 use Rattle.c_parser.proofs.AllOnline.{AllOnline}
-use Rattle.c_parser.proofs.OnlineExpr.{online_wanted}
 
 -- ---- a specifier of one word
 
@@ -75,7 +74,7 @@ module _ (k : ℕ) (low : Readers) (on : AllOnline low) (takes : (scope : Scope)
       by place o = online_stop Unfit
 
   value_by_online : (scope : Scope) (pos : Pos) (x : List ℕ) (assigned : Bool) → Online (value_by k low scope pos x assigned)
-  value_by_online scope pos x true = online_skip _ (online_bind _ _ (online_wanted scope k _ (on.expr scope conditional)) (λ value. online_give (Enumerates pos x (With value))))
+  value_by_online scope pos x true = online_deeper k _ (online_skip _ (online_bind _ _ (on.expr scope conditional) (λ value. online_give (Enumerates pos x (With value)))))
   value_by_online scope pos x false = online_give (Enumerates pos x Without)
 
   enumerator_on_online : (scope : Scope) (pos : Pos) (x : List ℕ) → Online (enumerator_on k low scope pos x)

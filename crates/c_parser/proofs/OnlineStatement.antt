@@ -264,3 +264,9 @@ module _ (k : ℕ) where
 
       declared : Reader External
       declared = (readers k).specifiers scope >>= λ all. look (λ next. external_by k scope all (is_mark p.Semicolon next))
+
+pub externals_online : (k : ℕ) → Online (externals k)
+unfolding externals
+externals_online k = online_bind _ _ (external_at_online k predeclared) (λ first.
+    online_bind _ _ (many_online (λ s o. is_some o) (external_at k) (λ s one. s ++ external_adds one) (external_at_online k) (λ s. refl) (external_at_takes k) (predeclared ++ external_adds first))
+    (λ rest. online_give (first ∷ rest)))

@@ -12,7 +12,7 @@ use Rattle.c_parser.specs.Height.{member_height, specifier_height, members_heigh
 use Rattle.c_parser.specs.Levels.{conditional}
 use Rattle.c_parser.specs.Operators.{compound_word}
 use Rattle.c_parser.specs.Reader.{Found, seen, place, tail, give, exactly, ◌>>=◌}
-use Rattle.c_parser.specs.ReadExpr.{Readers, wanted}
+use Rattle.c_parser.specs.ReadExpr.{Readers}
 use Rattle.c_parser.specs.ReadSpecifier.{Specified, Come, is_nothing, is_other, more_members, compound_body, compound_by, compound_tag, compound_on, compound, value_by, enumerator_on, enumerator_by, enumerator, listed_enumerators, enum_body, enum_by, enum_tag, enum_on, enumeration}
 use Rattle.c_parser.specs.ReadToken.{is_mark, name_of, begins_type}
 use Rattle.c_parser.specs.Scopes.{Scope, member_adds, enumerator_adds}
@@ -23,7 +23,6 @@ use Rattle.c_parser.specs.View.{members, enumerators}
 use Rattle.c_parser.specs.WellFormed.{IsSpecifier, IsMember, AreMembers, IsEnumerator, HasEnumerator, AreEnumerators}
 use Rattle.c_parser.proofs.Found.{moved, bind_found, deeper_found, mark_then, Spelt, joined, nothing_spelt, spelt_at, spelt_bare, spelt_mark, many_found, listed_found}
 use Rattle.c_parser.proofs.Sound.{Read, Listed, spelt, AllSound}
-use Rattle.c_parser.proofs.SoundExpr.{wanted_found}
 use Rattle.c_parser.proofs.TokenTests.{token_is, name_is}
 
 -- basic words stand with each other, another type alone
@@ -41,10 +40,10 @@ IsMore s = Read (λ one. IsSpecifier one s.scope × May s.come one) specifier_he
 module _ (k : ℕ) (low : Readers) (sound : AllSound k low) where
   -- ---- structures and unions
 
-  abbrev IsBody : Scope → List Token → List MemberDeclaration → List Token → Type 0
+  abbrev pub IsBody : Scope → List Token → List MemberDeclaration → List Token → Type 0
   IsBody scope = Read (λ all. AreMembers (members all) scope) (λ all. members_height (members all)) (λ all. spell_members (members all)) k
 
-  more_members_sound : (scope : Scope) (tokens rest : List Token) (all : List MemberDeclaration) → more_members k low scope tokens ≡ Found all rest → IsBody scope tokens all rest
+  pub more_members_sound : (scope : Scope) (tokens rest : List Token) (all : List MemberDeclaration) → more_members k low scope tokens ≡ Found all rest → IsBody scope tokens all rest
   unfolding more_members
   more_members_sound scope tokens rest all h =
       many_found begins_type low.member (λ s one. s ++ member_adds one) IsBody (λ s tokens. record { spells = refl; fits = tt; within = omega arith })
@@ -104,14 +103,15 @@ module _ (k : ℕ) (low : Readers) (sound : AllSound k low) where
 
   -- ---- enumerations
 
-  abbrev IsOne : Scope → List Token → Enumerator → List Token → Type 0
+  abbrev pub IsOne : Scope → List Token → Enumerator → List Token → Type 0
   IsOne scope = Read (λ one. IsEnumerator one scope) enumerator_height spell_enumerator k
 
   value_by_sound : (scope : Scope) (x : List ℕ) (b : Bool) (tokens rest : List Token) (one : Enumerator) → seen tokens ≡ Some (body.Name x) → is_mark p.Assign (seen (tail tokens)) ≡ b
       → value_by k low scope (place tokens) x b (tail tokens) ≡ Found one rest → IsOne scope tokens one rest
   value_by_sound scope x true tokens rest one is assigns h =
-      let y = bind_found (wanted scope k (low.expr scope conditional) (tail (tail tokens))) (λ value. give (Enumerates (place tokens) x (With value))) one rest h in
-      let z = sound.expr scope conditional (omega arith) (tail (tail tokens)) y.mid y.value (wanted_found scope k (low.expr scope conditional) (tail (tail tokens)) y.mid y.value y.one) in
+      let y = bind_found (low.expr scope conditional (tail (tail tokens))) (λ value. give (Enumerates (place tokens) x (With value))) one rest
+      (deeper_found k (λ ts. (low.expr scope conditional >>= λ value. give (Enumerates (place tokens) x (With value))) (tail ts)) (tail tokens) rest one h) in
+      let z = sound.expr scope conditional (omega arith) (tail (tail tokens)) y.mid y.value y.one in
       moved (IsOne scope tokens) y.two (record {
         spells = (joined (spelt_at tokens (body.Name x) is) (joined (spelt_mark p.Assign (tail tokens) assigns) (spelt z))).takes;
         fits = z.fits;
@@ -125,7 +125,7 @@ module _ (k : ℕ) (low : Readers) (sound : AllSound k low) where
   enumerator_by_sound scope (Some x) tokens rest one m h = value_by_sound scope x (is_mark p.Assign (seen (tail tokens))) tokens rest one (token_is body.Name _ _ x (name_is (seen tokens)) m) refl h
   enumerator_by_sound scope None tokens rest one m h = absurd (cc (h))
 
-  enumerator_sound : (scope : Scope) (tokens rest : List Token) (one : Enumerator) → enumerator k low scope tokens ≡ Found one rest → IsOne scope tokens one rest
+  pub enumerator_sound : (scope : Scope) (tokens rest : List Token) (one : Enumerator) → enumerator k low scope tokens ≡ Found one rest → IsOne scope tokens one rest
   unfolding enumerator
   enumerator_sound scope tokens rest one h = enumerator_by_sound scope (name_of (seen tokens)) tokens rest one refl h
 
@@ -152,11 +152,11 @@ module _ (k : ℕ) (low : Readers) (sound : AllSound k low) where
         within = omega (arith, x.within, then.within);
       }
 
-  abbrev Enumerated : Scope → List Token → List Enumerator × Bool → List Token → Type 0
+  abbrev pub Enumerated : Scope → List Token → List Enumerator × Bool → List Token → Type 0
   Enumerated scope tokens all rest =
       Listed (HasEnumerator (enumerators all.0) × AreEnumerators (enumerators all.0) scope) (enumerators_height (enumerators all.0)) k (commas (spelled_enumerators (enumerators all.0))) (comma_if all.1) tokens rest
 
-  listed_enumerators_sound : (scope : Scope) (tokens rest : List Token) (all : List Enumerator × Bool) → listed_enumerators k low scope tokens ≡ Found all rest → Enumerated scope tokens all rest
+  pub listed_enumerators_sound : (scope : Scope) (tokens rest : List Token) (all : List Enumerator × Bool) → listed_enumerators k low scope tokens ≡ Found all rest → Enumerated scope tokens all rest
   unfolding listed_enumerators
   listed_enumerators_sound scope tokens rest all h =
       let x = listed_found (is_mark p.Comma) (is_mark p.CloseBrace) (give tt) (enumerator k low) (λ s one. s ++ enumerator_adds one) MoreEnumerated

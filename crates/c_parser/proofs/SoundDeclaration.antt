@@ -35,14 +35,14 @@ use Rattle.c_parser.proofs.TokenTests.{is_word_is}
 module _ (k : ℕ) where
   -- ---- declarators and what follows their `=`
 
-  abbrev behind : Bool → Scope → Declarator → Scope
+  abbrev pub behind : Bool → Scope → Declarator → Scope
   behind names_type scope one = scope ++ declarator_adds one ++ declared_if names_type (own_name one)
 
   -- a declarator with its initializer
-  abbrev IsInitOne : Bool → Scope → InitDeclarator → Type 0
+  abbrev pub IsInitOne : Bool → Scope → InitDeclarator → Type 0
   IsInitOne names_type scope one = IsDeclarator one.declarator scope × DeclaresName one.declarator × IsInit one.initializer (behind names_type scope one.declarator)
 
-  abbrev InitRead : Bool → Scope → List Token → InitDeclarator → List Token → Type 0
+  abbrev pub InitRead : Bool → Scope → List Token → InitDeclarator → List Token → Type 0
   InitRead names_type scope =
       Read (IsInitOne names_type scope) (λ one. init_declarators_height (one ∷ [])) spell_init_declarator k
 
@@ -66,11 +66,11 @@ module _ (k : ℕ) where
           within = omega (arith, before.within);
         })
 
-    init_on_sound : init_on k names_type scope one tokens ≡ Found all rest → InitRead names_type scope start all rest
+    pub init_on_sound : init_on k names_type scope one tokens ≡ Found all rest → InitRead names_type scope start all rest
     unfolding init_on
     init_on_sound h = init_by_sound (is_mark p.Assign (seen tokens)) refl h
 
-  init_declarator_sound : (names_type : Bool) (scope : Scope) (tokens rest : List Token) (all : InitDeclarator) → init_declarator k names_type scope tokens ≡ Found all rest → InitRead names_type scope tokens all rest
+  pub init_declarator_sound : (names_type : Bool) (scope : Scope) (tokens rest : List Token) (all : InitDeclarator) → init_declarator k names_type scope tokens ≡ Found all rest → InitRead names_type scope tokens all rest
   unfolding init_declarator
   init_declarator_sound names_type scope tokens rest all h =
       let x = bind_found ((readers k).declarator form.Named scope tokens) (init_on k names_type scope) all rest h in
@@ -78,14 +78,14 @@ module _ (k : ℕ) where
 
   -- ---- the declarators behind a first one
 
-  abbrev MoreRead : Bool → Scope → List Token → List InitDeclarator → Bool → List Token → Type 0
+  abbrev pub MoreRead : Bool → Scope → List Token → List InitDeclarator → Bool → List Token → Type 0
   MoreRead names_type scope tokens more b rest =
       Read (λ all. AreInitDeclarators names_type all scope) init_declarators_height (λ all. flat_map (λ part. mark p.Comma ∷ part) (map spell_init_declarator all)) k tokens more rest
 
   scope_behind : (names_type : Bool) (scope : Scope) (one : InitDeclarator) → scope ++ init_declarator_adds k names_type one ≡ behind names_type scope one.declarator ++ init_adds one.initializer
   scope_behind names_type scope one = simp append_assoc
 
-  first_init : (names_type : Bool) (scope : Scope) (one : InitDeclarator) (more : List InitDeclarator) → IsInitOne names_type scope one → AreInitDeclarators names_type more (scope ++ init_declarator_adds k names_type one)
+  pub first_init : (names_type : Bool) (scope : Scope) (one : InitDeclarator) (more : List InitDeclarator) → IsInitOne names_type scope one → AreInitDeclarators names_type more (scope ++ init_declarator_adds k names_type one)
       → AreInitDeclarators names_type (one ∷ more) scope
   first_init names_type scope one more fits then = (fits.0, fits.1, fits.2, subst (AreInitDeclarators names_type more) (scope_behind names_type scope one) then)
 
@@ -102,7 +102,7 @@ module _ (k : ℕ) where
         within = omega (arith, x.within, then.within);
       }
 
-  more_declarators_sound : (names_type : Bool) (scope : Scope) (tokens rest : List Token) (all : List (Option InitDeclarator)) → more_declarators k names_type scope tokens ≡ Found all rest
+  pub more_declarators_sound : (names_type : Bool) (scope : Scope) (tokens rest : List Token) (all : List (Option InitDeclarator)) → more_declarators k names_type scope tokens ≡ Found all rest
       → MoreRead names_type scope tokens (ones all) false rest
   unfolding more_declarators
   more_declarators_sound names_type scope tokens rest all h =

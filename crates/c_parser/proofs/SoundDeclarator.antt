@@ -46,7 +46,7 @@ no_declarator_sound shape scope tokens rest one h =
 
 -- ---- qualifiers behind a star
 
-abbrev AreQualifiers : List Token → List Qualifier → List Token → Type 0
+abbrev pub AreQualifiers : List Token → List Qualifier → List Token → Type 0
 AreQualifiers tokens all rest = Spelt tokens (spell_qualifiers all) rest
 
 qualifier_sound : (m : Option Qualifier) (tokens rest : List Token) (one : Qualifier) → qualifier_of (seen tokens) ≡ m → qualifier_by m tokens ≡ Found one rest → Spelt tokens (word (qualifier_word one) ∷ []) rest
@@ -55,7 +55,7 @@ qualifier_sound (Some found) tokens rest one m h =
     (spelt_bare tokens (body.Word (qualifier_word found)) (token_is (λ one. body.Word (qualifier_word one)) _ _ found (qualifier_is (seen tokens)) m))
 qualifier_sound None tokens rest one m h = absurd (cc (h))
 
-qualifiers_sound : (scope : Scope) (tokens rest : List Token) (all : List Qualifier) → qualifiers scope tokens ≡ Found all rest → AreQualifiers tokens all rest
+pub qualifiers_sound : (scope : Scope) (tokens rest : List Token) (all : List Qualifier) → qualifiers scope tokens ≡ Found all rest → AreQualifiers tokens all rest
 unfolding qualifiers qualifier
 qualifiers_sound scope tokens rest all h =
     many_found (λ s o. is_some (qualifier_of o)) (λ s. qualifier) (λ s word. s) (λ s. AreQualifiers) (λ s tokens. nothing_spelt tokens)
@@ -63,7 +63,7 @@ qualifiers_sound scope tokens rest all h =
 
 -- ---- the first token of a declarator
 
-abbrev BeginsWith : List ℕ → List Spelled → Type 0
+abbrev pub BeginsWith : List ℕ → List Spelled → Type 0
 BeginsWith x [] = ⊥
 BeginsWith x (first ∷ more) = first.body ≡ body.Name x
 
@@ -71,7 +71,7 @@ begins_more : (x : List ℕ) (front more : List Spelled) → BeginsWith x front 
 begins_more x [] more is = absurd is
 begins_more x (first ∷ front) more is = is
 
-begins_name : (inner : Declarator) (x : List ℕ) → first_name inner ≡ Some x → BeginsWith x (spell_declarator inner)
+pub begins_name : (inner : Declarator) (x : List ℕ) → first_name inner ≡ Some x → BeginsWith x (spell_declarator inner)
 begins_name Omitted x h = absurd (cc (h))
 begins_name (Name pos y) x h = cc (h)
 begins_name (DParen inner) x h = absurd (cc (h))
@@ -91,7 +91,7 @@ no_type scope tokens rest inner none all = by (first_name inner) refl
     by None m = tt
     by (Some x) m = subst (λ o. begins_type scope o ≡ false) (begins_seen x tokens rest (spell_declarator inner) (begins_name inner x m) all) none
 
-named_token : (inner : Declarator) → DeclaresName inner → HasToken inner
+pub named_token : (inner : Declarator) → DeclaresName inner → HasToken inner
 named_token Omitted has = absurd (cc (has))
 named_token _ has = tt
 
@@ -104,19 +104,19 @@ close_seen [] rest closes = absurd closes.takes
 close_seen (token ∷ tokens) rest closes = ap (λ next. is_mark p.CloseParen (Some next)) closes.takes.0
 
 -- what is known of the token behind a parenthesis that begins no parameter list
-abbrev Opens : Form → Scope → List Token → Type 0
+abbrev pub Opens : Form → Scope → List Token → Type 0
 Opens form.Named scope behind = Unit {0}
 Opens form.Abstract scope behind = is_mark p.CloseParen (seen behind) ≡ false
 Opens form.Parameter scope behind = (is_mark p.CloseParen (seen behind) ≡ false) × (begins_type scope (seen behind) ≡ false)
 
-has_paren : (shape : Form) (scope : Scope) (behind mid rest : List Token) (inner : Declarator) → Opens shape scope behind → Takes behind (spell_declarator inner) mid → Spelt mid (mark p.CloseParen ∷ []) rest → HasForm shape scope inner
+pub has_paren : (shape : Form) (scope : Scope) (behind mid rest : List Token) (inner : Declarator) → Opens shape scope behind → Takes behind (spell_declarator inner) mid → Spelt mid (mark p.CloseParen ∷ []) rest → HasForm shape scope inner
     → HasToken inner × HasForm shape scope (DParen inner)
 has_paren form.Named scope behind mid rest inner opens all closes has = (named_token inner has, has)
 has_paren form.Abstract scope behind mid rest inner opens all closes has = (closed_token inner behind mid opens (close_seen mid rest closes) all, has)
 has_paren form.Parameter scope behind mid rest inner opens all closes has =
     (closed_token inner behind mid opens.0 (close_seen mid rest closes) all, (no_type scope behind mid inner opens.1 all, has))
 
-has_pointer : (shape : Form) (scope : Scope) (words : List Qualifier) (inner : Declarator) → HasForm shape scope inner → HasForm shape scope (PointerTo words inner)
+pub has_pointer : (shape : Form) (scope : Scope) (words : List Qualifier) (inner : Declarator) → HasForm shape scope inner → HasForm shape scope (PointerTo words inner)
 has_pointer form.Named scope words inner has = has
 has_pointer form.Abstract scope words inner has = has
 has_pointer form.Parameter scope words inner has = has
@@ -276,7 +276,7 @@ module _ (k : ℕ) (low : Readers) (sound : AllSound k low) where
         within = omega (arith, x.within, then.within);
       }
 
-  listed_declarators_sound : (scope : Scope) (tokens rest : List Token) (all : List Declarator × Bool) → listed_declarators k low scope tokens ≡ Found all rest
+  pub listed_declarators_sound : (scope : Scope) (tokens rest : List Token) (all : List Declarator × Bool) → listed_declarators k low scope tokens ≡ Found all rest
       → Read (λ all. AreDeclarators all scope) declarators_height (λ all. commas (spelled_declarators all)) k tokens (declarators all.0) rest
   unfolding listed_declarators
   listed_declarators_sound scope tokens rest all h =

@@ -37,7 +37,7 @@ use Rattle.c_parser.proofs.TokenTests.{is_mark_is, is_literal_width, token_is, p
 -- ---- levels
 
 -- where a lower level is wanted, an expression may stand too
-IsExpr_down : (e : Expr) (scope : Scope) (high low : ℕ) → low ≤ high → IsExpr e scope high → IsExpr e scope low
+pub IsExpr_down : (e : Expr) (scope : Scope) (high low : ℕ) → low ≤ high → IsExpr e scope high → IsExpr e scope low
 IsExpr_down (Const pos constant) scope high low le is = is
 IsExpr_down (Id pos x) scope high low le is = is
 IsExpr_down (Text pos text) scope high low le is = is
@@ -53,7 +53,7 @@ IsExpr_down (Infix' pos operator left right) scope high low le is = (omega arith
 IsExpr_down (Cond pos test then else) scope high low le is = (omega arith, is.1, is.2, is.3)
 
 -- and up to the level of its own operator
-IsExpr_own : (e : Expr) (scope : Scope) (one other : ℕ) → other ≤ own_level e → IsExpr e scope one → IsExpr e scope other
+pub IsExpr_own : (e : Expr) (scope : Scope) (one other : ℕ) → other ≤ own_level e → IsExpr e scope one → IsExpr e scope other
 IsExpr_own (Const pos constant) scope one other le is = is
 IsExpr_own (Id pos x) scope one other le is = is
 IsExpr_own (Text pos text) scope one other le is = is
@@ -338,7 +338,7 @@ module _ (k : ℕ) (low : Readers) (sound : AllSound k low) where
         moved (IsRead scope level start) {a = Cond (place tokens) left x.value y.value} {tokens = y.mid} y.two
         (cond_read x.mid c.mid y.mid x.value y.value is at_most may (sound.expr inner expression (omega arith) (tail tokens) x.mid x.value x.one) c.spelt (sound.expr (inner ++ expr_adds x.value) conditional (omega arith) c.mid y.mid y.value y.one))
 
-    infix_by_sound : (m : Option Infix) → infix_of (seen tokens) ≡ m → goes_between k low level left m (is_mark p.Question (seen tokens)) ≡ true → infix_by k low scope left (place tokens) m tokens ≡ Found e rest → IsRead scope level start e rest
+    pub infix_by_sound : (m : Option Infix) → infix_of (seen tokens) ≡ m → goes_between k low level left m (is_mark p.Question (seen tokens)) ≡ true → infix_by k low scope left (place tokens) m tokens ≡ Found e rest → IsRead scope level start e rest
     infix_by_sound (Some operator) m goes h =
         let both = and_parts (nat_le level (infix_level operator)) (nat_le (left_level operator) (own_level left)) goes in
         between_sound operator (token_is (λ operator. body.Mark (infix_token operator)) _ _ operator (infix_is (seen tokens)) m) (leb-true level (infix_level operator) both.0) (leb-true (left_level operator) (own_level left) both.1) h

@@ -58,11 +58,11 @@ module _ (k : ℕ) (low : Initializers) (sound : SoundInitializers k low) where
         within = omega (arith, x.within, then.within);
       }
 
-  abbrev ItemsRead : Scope → List Token → List Item × Bool → List Token → Type 0
+  abbrev pub ItemsRead : Scope → List Token → List Item × Bool → List Token → Type 0
   ItemsRead scope tokens all rest =
       Listed (HasItem (items all.0) × AreItems (items all.0) scope) (items_height (items all.0)) k (commas (spelled_items (items all.0))) (comma_if all.1) tokens rest
 
-  listed_items_sound : (scope : Scope) (tokens rest : List Token) (all : List Item × Bool) → listed_items k low scope tokens ≡ Found all rest → ItemsRead scope tokens all rest
+  pub listed_items_sound : (scope : Scope) (tokens rest : List Token) (all : List Item × Bool) → listed_items k low scope tokens ≡ Found all rest → ItemsRead scope tokens all rest
   unfolding listed_items
   listed_items_sound scope tokens rest all h =
       let x = listed_found (is_mark p.Comma) (is_mark p.CloseBrace) (give tt) low.item (λ s one. s ++ item_adds one) MoreRead

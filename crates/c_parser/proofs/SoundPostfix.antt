@@ -47,7 +47,7 @@ module _ (k : ℕ) (low : Readers) (sound : AllSound k low) where
   abbrev Arguments : Scope → List Token → Exprs → List Token → Type 0
   Arguments scope = Read (λ all. AreArguments all scope) exprs_height (λ all. commas (spelled_arguments all)) k
 
-  listed_arguments_sound : (scope : Scope) (tokens rest : List Token) (all : List Expr × Bool) → listed_arguments k low scope tokens ≡ Found all rest → Arguments scope tokens (exprs all.0) rest
+  pub listed_arguments_sound : (scope : Scope) (tokens rest : List Token) (all : List Expr × Bool) → listed_arguments k low scope tokens ≡ Found all rest → Arguments scope tokens (exprs all.0) rest
   unfolding listed_arguments
   listed_arguments_sound scope tokens rest all h =
       let x = listed_found (is_mark p.Comma) (λ o. false) (give tt) (λ s. low.expr s assignment) (λ s e. s ++ expr_adds e) MoreArguments
@@ -131,7 +131,7 @@ module _ (k : ℕ) (low : Readers) (sound : AllSound k low) where
           within = omega arith;
         })
 
-    postfix_by_sound : (o : Option Body) → seen tokens ≡ o → postfix_by k low scope left o tokens ≡ Found e rest → IsPostfix scope start e rest
+    pub postfix_by_sound : (o : Option Body) → seen tokens ≡ o → postfix_by k low scope left o tokens ≡ Found e rest → IsPostfix scope start e rest
     postfix_by_sound (Some (body.Mark p.OpenBracket)) is h = index_sound is h
     postfix_by_sound (Some (body.Mark p.OpenParen)) is h = call_sound is h
     postfix_by_sound (Some (body.Mark p.Dot)) is h = access_sound access.Dot is h

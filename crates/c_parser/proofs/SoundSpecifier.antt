@@ -86,7 +86,7 @@ module _ (s : Specified) (most : ℕ) (tokens rest : List Token) (one : Specifie
       let both = and_parts (is_type s.scope x) (is_nothing s.come) goes in
       moved (IsMore s most tokens) h (record { spells = (spelt_at tokens (body.Name x) is).takes; fits = (both.0, both.1); within = omega arith })
 
-abbrev SoundStep : ℕ → (Specified → Reader Specifier) → Type 0
+abbrev pub SoundStep : ℕ → (Specified → Reader Specifier) → Type 0
 SoundStep most step = (s : Specified) (tokens rest : List Token) (one : Specifier) → goes_specifier s (seen tokens) ≡ true → step s tokens ≡ Found one rest → IsMore s most tokens one rest
 
 low_specifier_by_sound : (s : Specified) (o : Option Body) (tokens rest : List Token) (one : Specifier) → seen tokens ≡ o → goes_specifier s o ≡ true
@@ -97,7 +97,7 @@ low_specifier_by_sound s (Some (body.Word w.Union)) tokens rest one is goes h = 
 low_specifier_by_sound s (Some (body.Word w.Enum)) tokens rest one is goes h = absurd (cc (h))
 low_specifier_by_sound s o tokens rest one is goes h = word_sound s 0 tokens rest one o is goes h
 
-low_step : SoundStep 0 low_specifier
+pub low_step : SoundStep 0 low_specifier
 unfolding low_specifier
 low_step s tokens rest one goes h = low_specifier_by_sound s (seen tokens) tokens rest one refl goes h
 
@@ -110,7 +110,7 @@ module _ (k : ℕ) (low : Readers) (sound : AllSound k low) where
   specifier_by_sound s (Some (body.Word w.Enum)) tokens rest one is goes h = enumeration_sound k low sound s goes tokens rest one is h
   specifier_by_sound s o tokens rest one is goes h = word_sound s (suc k) tokens rest one o is goes h
 
-  step_sound : SoundStep (suc k) (specifier_at k low)
+  pub step_sound : SoundStep (suc k) (specifier_at k low)
   unfolding specifier_at
   step_sound s tokens rest one goes h = specifier_by_sound s (seen tokens) tokens rest one refl goes h
 

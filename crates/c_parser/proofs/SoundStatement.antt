@@ -20,12 +20,12 @@ use Rattle.c_parser.specs.Tokens.{bare, mark}
 use Rattle.c_parser.specs.Tree.{Expr}
 use Rattle.c_parser.specs.TreeUnit.{ForInit, WithDeclaration, WithExpression, Statement, Block, ExprStmt, If, IfElse, Switch, While, Do, For, Break, Continue, Return}
 use Rattle.c_parser.specs.WellFormed.{IsExpr}
-use Rattle.c_parser.specs.WellFormedUnit.{IsOptional, IsForInit, IsClosed, IsStatement}
+use Rattle.c_parser.specs.WellFormedUnit.{IsOptional, IsForInit, IsStatement}
 use Rattle.c_parser.proofs.Found.{moved, bind_found, chosen, deeper_found, exactly_found, mark_then, Spelt, joined, nothing_spelt, spelt_at, spelt_bare, spelt_mark}
 use Rattle.c_parser.proofs.Sound.{Read, Listed, Sound, spelt}
 use Rattle.c_parser.proofs.SoundDeclaration.{declaration_lower_sound}
 use Rattle.c_parser.proofs.SoundExpr.{wanted_found}
-use Rattle.c_parser.proofs.SoundBlock.{TakesNoElse, SoundStatements, block_with_sound, switch_with_sound}
+use Rattle.c_parser.proofs.SoundBlock.{TakesNoElse, closed_then, SoundStatements, block_with_sound, switch_with_sound}
 use Rattle.c_parser.proofs.SoundSpecifier.{readers_sound}
 use Rattle.c_parser.proofs.TokenTests.{is_word_is}
 
@@ -44,7 +44,7 @@ module _ (k : ℕ) (low : Statements) (sound : SoundStatements k low) where
       let y = (readers_sound k).expr scope expression (omega arith) tokens x.mid x.value (wanted_found scope k ((readers k).expr scope expression) tokens x.mid x.value x.one) in
       moved (OptionalRead m scope tokens) {a = Some x.value} {tokens = c.mid} c.two (record { mid = x.mid; spells = spelt y; ends = c.spelt; fits = y.fits; within = y.within })
 
-  optional_sound : (m : Punct) (scope : Scope) (tokens rest : List Token) (e : Option Expr) → optional k low (is_mark m) scope tokens ≡ Found e rest → OptionalRead m scope tokens e rest
+  pub optional_sound : (m : Punct) (scope : Scope) (tokens rest : List Token) (e : Option Expr) → optional k low (is_mark m) scope tokens ≡ Found e rest → OptionalRead m scope tokens e rest
   unfolding optional
   optional_sound m scope tokens rest e h =
       elim (chosen (is_mark m (seen tokens)) _ _ tokens (Found e rest) h) [
@@ -55,7 +55,7 @@ module _ (k : ℕ) (low : Statements) (sound : SoundStatements k low) where
   abbrev TestRead : Scope → List Token → Expr → List Token → Type 0
   TestRead scope = Read (λ e. IsExpr e scope expression) height spell_controlling k
 
-  controlling_sound : (scope : Scope) → Sound (λ e. IsExpr e scope expression) height spell_controlling k (controlling k low scope)
+  pub controlling_sound : (scope : Scope) → Sound (λ e. IsExpr e scope expression) height spell_controlling k (controlling k low scope)
   unfolding controlling
   controlling_sound scope tokens rest e h =
       let o = mark_then p.OpenParen ((readers k).expr scope expression >>= λ test. exactly (is_mark p.CloseParen) >>= λ _. give test) tokens rest e h in
@@ -77,7 +77,7 @@ module _ (k : ℕ) (low : Statements) (sound : SoundStatements k low) where
       let y = optional_sound p.Semicolon scope tokens x.mid x.value x.one in
       moved (InitRead scope tokens) {a = WithExpression x.value} {tokens = x.mid} x.two (record { spells = (joined y.spells y.ends).takes; fits = y.fits; within = y.within })
 
-  for_init_sound : (scope : Scope) (tokens rest : List Token) (one : ForInit) → for_init k low scope tokens ≡ Found one rest → InitRead scope tokens one rest
+  pub for_init_sound : (scope : Scope) (tokens rest : List Token) (one : ForInit) → for_init k low scope tokens ≡ Found one rest → InitRead scope tokens one rest
   unfolding for_init
   for_init_sound scope tokens rest one h = for_init_by_sound scope tokens rest one (begins_type scope (seen tokens)) h
 
@@ -110,10 +110,6 @@ module _ (k : ℕ) (low : Statements) (sound : SoundStatements k low) where
       },
       inr none,
     )
-
-    closed_then : (then : Statement) (behind : List Token) → is_word w.Else (seen behind) ≡ true → TakesNoElse then behind → IsClosed then
-    closed_then then behind is (inl closed) = closed
-    closed_then then behind is (inr none) = absurd (cc (is, none))
 
     else_by_sound : (mid behind : List Token) (test : Expr) (then : Statement) (b : Bool) → seen tokens ≡ Some (body.Word w.If) → TestRead scope (tail tokens) test mid
         → Read (λ one. IsStatement one (scope ++ expr_adds test)) statement_height spell_statement k mid then behind → TakesNoElse then behind

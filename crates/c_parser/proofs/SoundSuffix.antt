@@ -24,12 +24,12 @@ use Rattle.c_parser.proofs.Found.{Spelt, moved, bind_found, mark_then, joined, r
 use Rattle.c_parser.proofs.Sound.{Read, Listed, HasForm, spelt, AllSound}
 use Rattle.c_parser.proofs.SoundExpr.{wanted_found}
 
-has_array : (shape : Form) (scope : Scope) (left : Declarator) (length : Maybe) → HasForm shape scope left → HasForm shape scope (ArrayOf left length)
+pub has_array : (shape : Form) (scope : Scope) (left : Declarator) (length : Maybe) → HasForm shape scope left → HasForm shape scope (ArrayOf left length)
 has_array form.Named scope left length has = has
 has_array form.Abstract scope left length has = has
 has_array form.Parameter scope left length has = has
 
-has_function : (shape : Form) (scope : Scope) (left : Declarator) (list : Parameters) (variadic : Bool) → HasForm shape scope left → HasForm shape scope (FunctionOf left list variadic)
+pub has_function : (shape : Form) (scope : Scope) (left : Declarator) (list : Parameters) (variadic : Bool) → HasForm shape scope left → HasForm shape scope (FunctionOf left list variadic)
 has_function form.Named scope left list variadic has = has
 has_function form.Abstract scope left list variadic has = has
 has_function form.Parameter scope left list variadic has = has

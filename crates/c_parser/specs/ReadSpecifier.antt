@@ -14,7 +14,7 @@ use Rattle.c_parser.specs.declared.specifier.Tag.{Tag}
 use Rattle.c_parser.specs.Levels.{conditional}
 use Rattle.c_parser.specs.Reader.{Reader, Unfit, TooDeep, ◌>>=◌, give, stop, look, here, skip, deeper, exactly, many, listed}
 use Rattle.c_parser.specs.ReadToken.{is_mark, is_word, name_of, begins_type, storage_of, qualifier_of, basic_of}
-use Rattle.c_parser.specs.ReadExpr.{Readers, wanted, grouped, expr_at}
+use Rattle.c_parser.specs.ReadExpr.{Readers, grouped, expr_at}
 use Rattle.c_parser.specs.ReadDeclarator.{no_declarator, declarator_at, type_name_at, parameter_at, member_at}
 use Rattle.c_parser.specs.Scopes.{Scope, is_type, specifier_adds, member_adds, enumerator_adds}
 use Rattle.c_parser.specs.Tree.{Specifier, Storage', Qualifier', Inline, BasicWord', CompoundTag, Compound, EnumTag, Enum, TypedefName, Specifiers, MemberDeclaration, Enumerator, Enumerates, Without, With}
@@ -112,7 +112,7 @@ module _ (k : ℕ) (low : Readers) where
   -- ---- enumerations (6.7.2.2)
 
   abbrev pub value_by : Scope → Pos → List ℕ → Bool → Reader Enumerator
-  value_by scope pos x true = skip (wanted scope k (low.expr scope conditional) >>= λ value. give (Enumerates pos x (With value)))
+  value_by scope pos x true = deeper k (skip (low.expr scope conditional >>= λ value. give (Enumerates pos x (With value))))
   value_by scope pos x false = give (Enumerates pos x Without)
 
   unfoldable pub enumerator_on : Scope → Pos → List ℕ → Reader Enumerator

@@ -7,7 +7,7 @@ ghost use Rattle.c_parser.specs.Tokens.{Match};
 ghost use Rattle.critical_table.specs.declared.pos.Pos.{Pos};
 ghost use Rattle.critical_table.specs.declared.refusal.Refusal.{Refusal};
 ghost use Rattle.c_lexer.specs.Stream.{Stream};
-ghost use Rattle.c_parser.specs.Parsing.{IsSyntactic, SpelledBy, RefusedAt};
+ghost use Rattle.c_parser.specs.Parsing.{SpelledBy, RefusedAt};
 ghost use Rattle.c_parser.specs.First.{IsFirst};
 ghost use Rattle.c_parser.specs.Tree.{Expr, TypeName, Specifiers, Declarator, Parameter, MemberDeclaration};
 ghost use Rattle.c_parser.specs.TreeUnit.{Initializer, Item, Declaration, Statement, BlockItem, SwitchItem, External, Tree};
@@ -54,18 +54,18 @@ pub fn height_law()
     ensures greatest { (tree : Tree) → IsWellFormed tree → tree_height tree ≤ 256 }
 {}
 
-/// A unit has one tree, or is refused for one reason at one place, and not both.
+/// Each unit has one tree, or is refused for one reason at one place, and not both.
 pub fn answer_law()
     ensures tree { (stream : Stream) (a b : Tree) → SpelledBy stream a → SpelledBy stream b → a ≡ b }
     ensures refusal { (stream : Stream) (why why' : Refusal) (pos pos' : Pos) → RefusedAt stream why pos → RefusedAt stream why' pos' → (why ≡ why') × (pos ≡ pos') }
+    ensures total { (stream : Stream) → ((tree : Tree) × SpelledBy stream tree) ⊎ ((why : Refusal) × (pos : Pos) × RefusedAt stream why pos) }
     ensures apart { (stream : Stream) (tree : Tree) (why : Refusal) (pos : Pos) → SpelledBy stream tree → RefusedAt stream why pos → ⊥ }
 {}
 
 /// No two well-formed trees have one spelling, so the tokens say which is meant: precedence, association, the nearest
-/// `else` and the innermost declaration of each name decide (6.5 to 6.9). Each unit has its tree, or has none.
+/// `else` and the innermost declaration of each name decide (6.5 to 6.9).
 pub fn one_tree_law()
     ensures expression { (scope : Scope) (a b : Expr) (tokens : List Token) → IsExpr a scope expression → IsExpr b scope expression → Match tokens (spell a) → Match tokens (spell b) → a ≡ b }
     ensures type_name { (scope : Scope) (a b : TypeName) (tokens : List Token) → IsTypeName a scope → IsTypeName b scope → Match tokens (spell_type_name a) → Match tokens (spell_type_name b) → a ≡ b }
-    ensures decided { (stream : Stream) → ((tree : Tree) × SpelledBy stream tree) ⊎ (IsSyntactic stream.tokens → ⊥) }
     ensures unit { (a b : Tree) (tokens : List Token) → IsTree a → IsTree b → Match tokens (spell_tree a) → Match tokens (spell_tree b) → a.end ≡ b.end → a ≡ b }
 {}
