@@ -1,6 +1,6 @@
 -- What it says of readers that they give the same with more height, or were too deep.
 use Rattle.std.proofs.Common.{ℕ}
-use Rattle.c_parser.specs.Form.{Form}
+use Rattle.c_parser.specs.declared.form.Form.{Form}
 use Rattle.c_parser.specs.ReadExpr.{Readers}
 use Rattle.c_parser.specs.Scopes.{Scope}
 use Rattle.c_parser.proofs.GrowsTools.{Grown}

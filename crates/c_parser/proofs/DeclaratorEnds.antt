@@ -6,8 +6,8 @@ use Rattle.c_lexer.specs.declared.punct.Punct.TheVariants as p
 use Rattle.c_lexer.specs.declared.token.Token.{Token}
 use Rattle.c_lexer.specs.declared.token.Body.{Body}
 use Rattle.c_lexer.specs.declared.token.Body.TheVariants as body
-use Rattle.c_parser.specs.Form.{Form}
-use Rattle.c_parser.specs.Form as form
+use Rattle.c_parser.specs.declared.form.Form.{Form}
+use Rattle.c_parser.specs.declared.form.Form.TheVariants as form
 use Rattle.c_parser.specs.Reader.{seen}
 use Rattle.c_parser.specs.ReadToken.{is_mark, begins_type, qualifier_of}
 use Rattle.c_parser.specs.ReadDeclarator.{begins_declarator}

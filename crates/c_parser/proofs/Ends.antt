@@ -64,7 +64,7 @@ infix_again (between.AssignOp operator) = compound_again operator
 infix_again between.Comma = refl
 
 module _ (k : ℕ) (low : Readers) (left : Expr) where
-  arithmetic_ends : (operator : Arithmetic) → goes_postfix k low left (Some (body.Mark (arithmetic_token operator))) ≡ false
+  arithmetic_ends : (operator : Arithmetic) → goes_postfix left (Some (body.Mark (arithmetic_token operator))) ≡ false
   arithmetic_ends a.Multiply = refl
   arithmetic_ends a.Divide = refl
   arithmetic_ends a.Remainder = refl
@@ -76,7 +76,7 @@ module _ (k : ℕ) (low : Readers) (left : Expr) where
   arithmetic_ends a.BitXor = refl
   arithmetic_ends a.BitOr = refl
 
-  compound_ends : (operator : Arithmetic) → goes_postfix k low left (Some (body.Mark (compound_token operator))) ≡ false
+  compound_ends : (operator : Arithmetic) → goes_postfix left (Some (body.Mark (compound_token operator))) ≡ false
   compound_ends a.Multiply = refl
   compound_ends a.Divide = refl
   compound_ends a.Remainder = refl
@@ -88,7 +88,7 @@ module _ (k : ℕ) (low : Readers) (left : Expr) where
   compound_ends a.BitXor = refl
   compound_ends a.BitOr = refl
 
-  comparison_ends : (operator : Comparison) → goes_postfix k low left (Some (body.Mark (comparison_token operator))) ≡ false
+  comparison_ends : (operator : Comparison) → goes_postfix left (Some (body.Mark (comparison_token operator))) ≡ false
   comparison_ends c.Less = refl
   comparison_ends c.Greater = refl
   comparison_ends c.LessEqual = refl
@@ -96,7 +96,7 @@ module _ (k : ℕ) (low : Readers) (left : Expr) where
   comparison_ends c.Equal = refl
   comparison_ends c.NotEqual = refl
 
-  infix_ends : (operator : Infix) → goes_postfix k low left (Some (body.Mark (infix_token operator))) ≡ false
+  infix_ends : (operator : Infix) → goes_postfix left (Some (body.Mark (infix_token operator))) ≡ false
   infix_ends (between.Arithmetic operator) = arithmetic_ends operator
   infix_ends (between.Comparison operator) = comparison_ends operator
   infix_ends between.AndAlso = refl
@@ -129,14 +129,14 @@ higher_test level higher n low h = let e = leb-true higher n h in le-leb level n
 
 module _ (k : ℕ) (low : Readers) (left : Expr) where
   -- below the level that is wanted
-  between_below : (level : ℕ) (operator : Infix) (question : Bool) → infix_level operator < level → goes_between k low level left (Some operator) question ≡ false
+  between_below : (level : ℕ) (operator : Infix) (question : Bool) → infix_level operator < level → goes_between level left (Some operator) question ≡ false
   between_below level operator question below = first_false _ _ (lt-leb level (infix_level operator) below)
 
-  between_question : (level : ℕ) (question : Bool) → conditional < level → goes_between k low level left None question ≡ false
+  between_question : (level : ℕ) (question : Bool) → conditional < level → goes_between level left None question ≡ false
   between_question level question below =
       first_false (question && nat_le level conditional) _ (second_false question (nat_le level conditional) (lt-leb level conditional below))
 
-  between_up : (level higher : ℕ) (operator : Option Infix) (question : Bool) → level ≤ higher → goes_between k low level left operator question ≡ false → goes_between k low higher left operator question ≡ false
+  between_up : (level higher : ℕ) (operator : Option Infix) (question : Bool) → level ≤ higher → goes_between level left operator question ≡ false → goes_between higher left operator question ≡ false
   between_up level higher (Some operator) question below h = fewer _ _ _ (higher_test level higher (infix_level operator) below) h
   between_up level higher None question below h =
       fewer (question && nat_le higher conditional) (question && nat_le level conditional) _ (under question (higher_test level higher conditional below)) h
@@ -147,33 +147,33 @@ module _ (k : ℕ) (low : Readers) (left : Expr) where
 
 -- ---- what follows an expression
 
-pub ends_closed : (level : ℕ) (tokens : List Token) (mark : Punct) → seen tokens ≡ Some (body.Mark mark) → ((k : ℕ) (low : Readers) (left : Expr) → goes_postfix k low left (Some (body.Mark mark)) ≡ false)
+pub ends_closed : (level : ℕ) (tokens : List Token) (mark : Punct) → seen tokens ≡ Some (body.Mark mark) → ((k : ℕ) (low : Readers) (left : Expr) → goes_postfix left (Some (body.Mark mark)) ≡ false)
     → infix_of (Some (body.Mark mark)) ≡ None → is_mark p.Question (Some (body.Mark mark)) ≡ false → EndsExpr level tokens
 ends_closed level tokens mark e no_postfix no_infix no_question = record {
   no_literal = λ wide. ap (is_literal wide) e ∙ mark_no_literal wide mark;
-  no_postfix = λ k low left. ap (goes_postfix k low left) e ∙ no_postfix k low left;
+  no_postfix = λ k low left. ap (goes_postfix left) e ∙ no_postfix k low left;
   no_infix = λ k low left.
-      ap (λ o. goes_between k low level left (infix_of o) (is_mark p.Question o)) e
-      ∙ ap (λ operator. goes_between k low level left operator (is_mark p.Question (Some (body.Mark mark)))) no_infix
-      ∙ ap (λ question. goes_between k low level left None question) no_question;
+      ap (λ o. goes_between level left (infix_of o) (is_mark p.Question o)) e
+      ∙ ap (λ operator. goes_between level left operator (is_mark p.Question (Some (body.Mark mark)))) no_infix
+      ∙ ap (λ question. goes_between level left None question) no_question;
 }
 
 pub ends_infix : (level : ℕ) (tokens : List Token) (operator : Infix) → seen tokens ≡ Some (body.Mark (infix_token operator)) → infix_level operator < level → EndsExpr level tokens
 ends_infix level tokens operator e below = record {
   no_literal = λ wide. ap (is_literal wide) e ∙ mark_no_literal wide (infix_token operator);
-  no_postfix = λ k low left. ap (goes_postfix k low left) e ∙ infix_ends k low left operator;
+  no_postfix = λ k low left. ap (goes_postfix left) e ∙ infix_ends k low left operator;
   no_infix = λ k low left.
-      ap (λ o. goes_between k low level left (infix_of o) (is_mark p.Question o)) e
-      ∙ ap (λ m. goes_between k low level left m (is_mark p.Question (Some (body.Mark (infix_token operator))))) (infix_again operator)
+      ap (λ o. goes_between level left (infix_of o) (is_mark p.Question o)) e
+      ∙ ap (λ m. goes_between level left m (is_mark p.Question (Some (body.Mark (infix_token operator))))) (infix_again operator)
       ∙ between_below k low left level operator (is_mark p.Question (Some (body.Mark (infix_token operator)))) below;
 }
 
 pub ends_question : (level : ℕ) (tokens : List Token) → seen tokens ≡ Some (body.Mark p.Question) → conditional < level → EndsExpr level tokens
 ends_question level tokens e below = record {
   no_literal = λ wide. ap (is_literal wide) e ∙ mark_no_literal wide p.Question;
-  no_postfix = λ k low left. ap (goes_postfix k low left) e;
+  no_postfix = λ k low left. ap (goes_postfix left) e;
   no_infix = λ k low left.
-      ap (λ o. goes_between k low level left (infix_of o) (is_mark p.Question o)) e ∙ between_question k low left level true below;
+      ap (λ o. goes_between level left (infix_of o) (is_mark p.Question o)) e ∙ between_question k low left level true below;
 }
 
 pub ends_up : (level higher : ℕ) (rest : List Token) → level ≤ higher → EndsExpr level rest → EndsExpr higher rest
@@ -191,6 +191,6 @@ ends_high level higher rest high ends = record {
   no_infix = λ k low left. by k low left (infix_of (seen rest)) (is_mark p.Question (seen rest));
 }
   where
-    by : (k : ℕ) (low : Readers) (left : Expr) (operator : Option Infix) (question : Bool) → goes_between k low higher left operator question ≡ false
+    by : (k : ℕ) (low : Readers) (left : Expr) (operator : Option Infix) (question : Bool) → goes_between higher left operator question ≡ false
     by k low left None question = between_question k low left higher question (omega arith)
     by k low left (Some operator) question = between_below k low left higher operator question (omega (arith, infix_low operator))

@@ -4,8 +4,8 @@ use Rattle.c_lexer.specs.declared.punct.Punct.TheVariants as p
 use Rattle.c_lexer.specs.declared.token.Token.{Token}
 use Rattle.c_lexer.specs.declared.token.Body.{Body}
 use Rattle.c_lexer.specs.declared.token.Body.TheVariants as body
-use Rattle.c_parser.specs.Form.{Form}
-use Rattle.c_parser.specs.Form as form
+use Rattle.c_parser.specs.declared.form.Form.{Form}
+use Rattle.c_parser.specs.declared.form.Form.TheVariants as form
 use Rattle.c_parser.specs.Height.{height, type_name_height, specifiers_height, declarator_height, parameter_height, member_height}
 use Rattle.c_parser.specs.Levels.{unary, postfix}
 use Rattle.c_parser.specs.Reader.{Found, seen}
@@ -22,8 +22,8 @@ use Rattle.c_parser.proofs.Takes.{Takes}
 -- nothing of this level goes on with an expression
 pub record EndsExpr (level : ℕ) (rest : List Token) : Type 0 where
   pub no_literal : (wide : Bool) → is_literal wide (seen rest) ≡ false
-  pub no_postfix : (k : ℕ) (low : Readers) (left : Expr) → goes_postfix k low left (seen rest) ≡ false
-  pub no_infix : (k : ℕ) (low : Readers) (left : Expr) → goes_infix k low level left (seen rest) ≡ false
+  pub no_postfix : (k : ℕ) (low : Readers) (left : Expr) → goes_postfix left (seen rest) ≡ false
+  pub no_infix : (k : ℕ) (low : Readers) (left : Expr) → goes_infix level left (seen rest) ≡ false
 
 -- no declarator goes on, none begins, and no qualifier of a pointer follows
 abbrev pub EndsDeclarator : List Token → Type 0

@@ -6,7 +6,7 @@ use Rattle.c_lexer.specs.declared.punct.Punct.TheVariants as p
 use Rattle.c_lexer.specs.declared.token.Token.{Token}
 use Rattle.c_lexer.specs.declared.token.Body.TheVariants as body
 use Rattle.c_lexer.specs.declared.word.Word.TheVariants as w
-use Rattle.c_parser.specs.Form as form
+use Rattle.c_parser.specs.declared.form.Form.TheVariants as form
 use Rattle.c_parser.specs.TreeUnit.{InitDeclarator, BlockItems, Function, External, Defines, Declaring, Asserting}
 use Rattle.c_parser.specs.First.{IsFirst}
 use Rattle.c_parser.specs.HeightUnit.{block_items_height, function_height, external_height, externals_height}

@@ -6,7 +6,7 @@ use Rattle.c_lexer.specs.declared.token.Token.{Token}
 use Rattle.c_lexer.specs.declared.token.Body.{Body}
 use Rattle.c_lexer.specs.declared.token.Body.TheVariants as body
 use Rattle.c_lexer.specs.declared.word.Word.TheVariants as w
-use Rattle.c_parser.specs.Form as form
+use Rattle.c_parser.specs.declared.form.Form.TheVariants as form
 use Rattle.c_parser.specs.declared.operator.Infix.TheVariants as between
 use Rattle.c_parser.specs.Levels.{assignment, conditional}
 use Rattle.c_parser.specs.Height.{declarator_height}

@@ -5,8 +5,8 @@ use Rattle.c_lexer.specs.declared.punct.Punct.TheVariants as p
 use Rattle.c_lexer.specs.declared.token.Token.{Token}
 use Rattle.c_lexer.specs.declared.token.Body.{Body}
 use Rattle.c_lexer.specs.declared.token.Body.TheVariants as body
-use Rattle.c_parser.specs.Form.{Form}
-use Rattle.c_parser.specs.Form as form
+use Rattle.c_parser.specs.declared.form.Form.{Form}
+use Rattle.c_parser.specs.declared.form.Form.TheVariants as form
 use Rattle.c_parser.specs.Height.{type_name_height, specifiers_height, declarator_height, declarators_height, parameter_height, member_height}
 use Rattle.c_parser.specs.Reader.{Found, ◌>>=◌, give, exactly, seen, tail}
 use Rattle.c_parser.specs.ReadExpr.{Readers}

@@ -105,7 +105,7 @@ turns_low (Cond pos test then else) = omega (arith, turns_low test)
 
 module _ (k : ℕ) (low : Readers) (full : AllFull k low) where
   climbing : Scope → ℕ → ℕ → Expr → Reader Expr
-  climbing scope level = climb (goes_infix k low level) (λ e. nat_le (height e) k) (infix_on k low scope)
+  climbing scope level = climb (goes_infix level) (λ e. nat_le (height e) k) (infix_on k low scope)
 
   -- the climb from the leftmost operand comes by the expression
   record Comes (scope : Scope) (level : ℕ) (e : Expr) (tokens rest : List Token) : Type 0 where
@@ -122,7 +122,7 @@ module _ (k : ℕ) (low : Readers) (full : AllFull k low) where
     climbs = λ n. let same : n + turns e ≡ n = omega arith in ap (λ n. climbing scope level n e rest) same;
   }
 
-  extend : (scope : Scope) (level : ℕ) (e left : Expr) (tokens mid rest : List Token) → turns e ≡ suc (turns left) → height left ≤ k → goes_infix k low level left (seen mid) ≡ true → infix_on k low scope left mid ≡ Found e rest → Comes scope level left tokens mid
+  extend : (scope : Scope) (level : ℕ) (e left : Expr) (tokens mid rest : List Token) → turns e ≡ suc (turns left) → height left ≤ k → goes_infix level left (seen mid) ≡ true → infix_on k low scope left mid ≡ Found e rest → Comes scope level left tokens mid
       → Comes scope level e tokens rest
   unfolding climbing
   extend scope level e left tokens mid rest one high goes reads x = record {
@@ -132,14 +132,14 @@ module _ (k : ℕ) (low : Readers) (full : AllFull k low) where
     climbs = λ n.
         let same : n + turns e ≡ suc n + turns left = omega arith in
         ap (λ n. climbing scope level n x.first x.mid) same ∙ x.climbs (suc n)
-        ∙ climb_step (goes_infix k low level) (λ e. nat_le (height e) k) (infix_on k low scope) n left e mid rest goes (le-leb (height left) k high) reads;
+        ∙ climb_step (goes_infix level) (λ e. nat_le (height e) k) (infix_on k low scope) n left e mid rest goes (le-leb (height left) k high) reads;
   }
 
   infix_goes : (scope : Scope) (level : ℕ) (operator : Infix) (left : Expr) (tokens : List Token) → seen tokens ≡ Some (body.Mark (infix_token operator)) → level ≤ infix_level operator → IsExpr left scope (left_level operator)
-      → goes_infix k low level left (seen tokens) ≡ true
+      → goes_infix level left (seen tokens) ≡ true
   infix_goes scope level operator left tokens e below is =
-      ap (goes_infix k low level left) e
-      ∙ ap (λ m. goes_between k low level left m (is_mark p.Question (Some (body.Mark (infix_token operator))))) (infix_again operator)
+      ap (goes_infix level left) e
+      ∙ ap (λ m. goes_between level left m (is_mark p.Question (Some (body.Mark (infix_token operator))))) (infix_again operator)
       ∙ both_true _ _ (le-leb level (infix_level operator) below) (le-leb (left_level operator) (own_level left) (own_above left scope (left_level operator) (left_low operator) is))
 
   infix_step : (scope : Scope) (pos : Pos) (operator : Infix) (left right : Expr) (tokens rest : List Token) → IsExpr right (scope ++ expr_adds left) (right_level operator) → height right ≤ k → EndsExpr (right_level operator) rest
@@ -151,9 +151,9 @@ module _ (k : ℕ) (low : Readers) (full : AllFull k low) where
       (ap (λ m. infix_by k low scope left pos m tokens) (infix_again operator)
       ∙ then_read _ _ right rest _ (full.expr (scope ++ expr_adds left) (right_level operator) right (tail tokens) rest (right_low operator) is high ends f.2) refl)
 
-  cond_goes : (scope : Scope) (level : ℕ) (test : Expr) (tokens : List Token) → seen tokens ≡ Some (body.Mark p.Question) → level ≤ conditional → IsExpr test scope logical_or → goes_infix k low level test (seen tokens) ≡ true
+  cond_goes : (scope : Scope) (level : ℕ) (test : Expr) (tokens : List Token) → seen tokens ≡ Some (body.Mark p.Question) → level ≤ conditional → IsExpr test scope logical_or → goes_infix level test (seen tokens) ≡ true
   cond_goes scope level test tokens e below is =
-      ap (goes_infix k low level test) e ∙ both_true _ _ (le-leb level conditional below) (le-leb logical_or (own_level test) (own_above test scope logical_or (omega arith) is))
+      ap (goes_infix level test) e ∙ both_true _ _ (le-leb level conditional below) (le-leb logical_or (own_level test) (own_above test scope logical_or (omega arith) is))
 
   cond_step : (scope : Scope) (pos : Pos) (test then else : Expr) (tokens mid rest : List Token) → IsExpr then (scope ++ expr_adds test) expression → IsExpr else (scope ++ expr_adds test ++ expr_adds then) conditional → height then ≤ k → height else ≤ k → EndsExpr conditional rest
       → Takes tokens (mark_at pos p.Question ∷ spell then) mid → Takes mid (mark p.Colon ∷ spell else) rest → infix_on k low scope test tokens ≡ Found (Cond pos test then else) rest
@@ -202,4 +202,4 @@ module _ (k : ℕ) (low : Readers) (full : AllFull k low) where
       let same : k ≡ (k - turns e) + turns e = let h = turns_low e in omega arith in
       then_read _ _ x.first x.mid _ x.reads
       (ap (λ n. climbing scope level n x.first x.mid) same ∙ x.climbs (k - turns e)
-      ∙ climb_over (goes_infix k low level) (λ e. nat_le (height e) k) (infix_on k low scope) (k - turns e) e rest (ends.no_infix k low e))
+      ∙ climb_over (goes_infix level) (λ e. nat_le (height e) k) (infix_on k low scope) (k - turns e) e rest (ends.no_infix k low e))

@@ -150,11 +150,11 @@ module _ (k : ℕ) (low : Readers) (full : AllFull k low) where
       (then_read _ _ arguments (tail mid) _ (arguments_again arguments (scope ++ expr_adds function) (tail tokens) mid are high g.0 f.2)
       (ap (λ pos. Found (Call pos function arguments) (tail mid)) f.1 ∙ ap (λ ts. Found (Call pos function arguments) ts) g.2))
 
-  member_by : (scope : Scope) (operator : Access) (whole : Expr) (tokens : List Token) → postfix_by k low scope whole (Some (body.Mark (access_token operator))) tokens ≡ access_name k low operator whole tokens
+  member_by : (scope : Scope) (operator : Access) (whole : Expr) (tokens : List Token) → postfix_by k low scope whole (Some (body.Mark (access_token operator))) tokens ≡ access_name operator whole tokens
   member_by scope access.Dot whole tokens = refl
   member_by scope access.Arrow whole tokens = refl
 
-  member_goes : (operator : Access) (whole : Expr) → goes_postfix k low whole (Some (body.Mark (access_token operator))) ≡ true
+  member_goes : (operator : Access) (whole : Expr) → goes_postfix whole (Some (body.Mark (access_token operator))) ≡ true
   member_goes access.Dot whole = refl
   member_goes access.Arrow whole = refl
 
@@ -169,11 +169,11 @@ module _ (k : ℕ) (low : Readers) (full : AllFull k low) where
       ∙ ap (λ o. named (name_of o) (λ x. give (Member (place tokens) operator whole x)) (tail tokens)) g.0
       ∙ ap (λ pos. Found (Member pos operator whole x) (tail (tail tokens))) f.1 ∙ ap (λ ts. Found (Member pos operator whole x) ts) g.2)
 
-  step_by : (scope : Scope) (operator : Postfix) (operand : Expr) (tokens : List Token) → postfix_by k low scope operand (Some (body.Mark (postfix_token operator))) tokens ≡ step_by_one k low operator operand tokens
+  step_by : (scope : Scope) (operator : Postfix) (operand : Expr) (tokens : List Token) → postfix_by k low scope operand (Some (body.Mark (postfix_token operator))) tokens ≡ step_by_one operator operand tokens
   step_by scope postfix.PostInc operand tokens = refl
   step_by scope postfix.PostDec operand tokens = refl
 
-  step_goes : (operator : Postfix) (operand : Expr) → goes_postfix k low operand (Some (body.Mark (postfix_token operator))) ≡ true
+  step_goes : (operator : Postfix) (operand : Expr) → goes_postfix operand (Some (body.Mark (postfix_token operator))) ≡ true
   step_goes postfix.PostInc operand = refl
   step_goes postfix.PostDec operand = refl
 
@@ -188,7 +188,7 @@ module _ (k : ℕ) (low : Readers) (full : AllFull k low) where
   -- ---- the climb from the primary expression
 
   pub climbing : Scope → ℕ → Expr → Reader Expr
-  climbing scope = climb (goes_postfix k low) (λ e. nat_le (height e) k) (postfix_on k low scope)
+  climbing scope = climb goes_postfix (λ e. nat_le (height e) k) (postfix_on k low scope)
 
   -- it comes by the expression
   pub record Chain (scope : Scope) (e : Expr) (tokens rest : List Token) : Type 0 where
@@ -215,7 +215,7 @@ module _ (k : ℕ) (low : Readers) (full : AllFull k low) where
     group = λ g. g;
   }
 
-  extend : (scope : Scope) (e left : Expr) (tokens mid rest : List Token) → turns e ≡ suc (turns left) → height left ≤ k → goes_postfix k low left (seen mid) ≡ true → postfix_on k low scope left mid ≡ Found e rest → (IsGrouped e → IsGrouped left) → Chain scope left tokens mid
+  extend : (scope : Scope) (e left : Expr) (tokens mid rest : List Token) → turns e ≡ suc (turns left) → height left ≤ k → goes_postfix left (seen mid) ≡ true → postfix_on k low scope left mid ≡ Found e rest → (IsGrouped e → IsGrouped left) → Chain scope left tokens mid
       → Chain scope e tokens rest
   unfolding climbing
   extend scope e left tokens mid rest one high goes reads group x = record {
@@ -229,7 +229,7 @@ module _ (k : ℕ) (low : Readers) (full : AllFull k low) where
     climbs = λ n.
         let same : n + turns e ≡ suc n + turns left = omega arith in
         ap (λ n. climbing scope n x.first x.mid) same ∙ x.climbs (suc n)
-        ∙ climb_step (goes_postfix k low) (λ e. nat_le (height e) k) (postfix_on k low scope) n left e mid rest goes (le-leb (height left) k high) reads;
+        ∙ climb_step goes_postfix (λ e. nat_le (height e) k) (postfix_on k low scope) n left e mid rest goes (le-leb (height left) k high) reads;
     group = λ g. x.group (group g);
   }
 
@@ -246,7 +246,7 @@ module _ (k : ℕ) (low : Readers) (full : AllFull k low) where
       let both = takes_parted tokens rest (spell array ++ mark_at pos p.OpenBracket ∷ spell inside) (mark p.CloseBracket ∷ []) all in
       let x = takes_parted tokens both.mid (spell array) (mark_at pos p.OpenBracket ∷ spell inside) both.one in
       let f = front x.mid both.mid (mark_at pos p.OpenBracket ∷ spell inside) x.two in
-      extend scope (Index pos array inside) array tokens x.mid rest refl (omega arith) (ap (goes_postfix k low array) f.0)
+      extend scope (Index pos array inside) array tokens x.mid rest refl (omega arith) (ap (goes_postfix array) f.0)
       (index_again scope pos array inside x.mid both.mid rest is.2 (omega arith) x.two both.two) (λ g. g)
       (chain array scope tokens x.mid is.1 (omega arith) (mark_ends _ x.mid f.0) x.one)
   chain (Call pos function arguments) scope tokens rest is high ends all =
@@ -254,21 +254,21 @@ module _ (k : ℕ) (low : Readers) (full : AllFull k low) where
       let both = takes_parted tokens rest (spell function ++ open_all) (mark p.CloseParen ∷ []) all in
       let x = takes_parted tokens both.mid (spell function) open_all both.one in
       let f = front x.mid both.mid open_all x.two in
-      extend scope (Call pos function arguments) function tokens x.mid rest refl (omega arith) (ap (goes_postfix k low function) f.0)
+      extend scope (Call pos function arguments) function tokens x.mid rest refl (omega arith) (ap (goes_postfix function) f.0)
       (call_again scope pos function arguments x.mid both.mid rest is.2 (omega arith) x.two both.two) (λ g. g)
       (chain function scope tokens x.mid is.1 (omega arith) (mark_ends _ x.mid f.0) x.one)
   chain (Member pos operator whole x) scope tokens rest is high ends all =
       let behind = mark_at pos (access_token operator) ∷ name x ∷ [] in
       let both = takes_parted tokens rest (spell whole) behind all in
       let f = front both.mid rest behind both.two in
-      extend scope (Member pos operator whole x) whole tokens both.mid rest refl (omega arith) (ap (goes_postfix k low whole) f.0 ∙ member_goes operator whole)
+      extend scope (Member pos operator whole x) whole tokens both.mid rest refl (omega arith) (ap (goes_postfix whole) f.0 ∙ member_goes operator whole)
       (member_again scope pos operator whole x both.mid rest both.two) (λ g. g)
       (chain whole scope tokens both.mid is.1 (omega arith) (mark_ends _ both.mid f.0) both.one)
   chain (Postfix' pos operator operand) scope tokens rest is high ends all =
       let behind = mark_at pos (postfix_token operator) ∷ [] in
       let both = takes_parted tokens rest (spell operand) behind all in
       let f = front both.mid rest behind both.two in
-      extend scope (Postfix' pos operator operand) operand tokens both.mid rest refl (omega arith) (ap (goes_postfix k low operand) f.0 ∙ step_goes operator operand)
+      extend scope (Postfix' pos operator operand) operand tokens both.mid rest refl (omega arith) (ap (goes_postfix operand) f.0 ∙ step_goes operator operand)
       (step_again scope pos operator operand both.mid rest both.two) (λ g. g)
       (chain operand scope tokens both.mid is.1 (omega arith) (mark_ends _ both.mid f.0) both.one)
   chain (Prefix' pos operator operand) scope tokens rest is high ends all = absurd (omega (arith, is.0))
@@ -278,12 +278,12 @@ module _ (k : ℕ) (low : Readers) (full : AllFull k low) where
   chain (Cond pos test then else) scope tokens rest is high ends all = absurd (omega (arith, is.0))
 
   -- where no postfix operator follows, it is over
-  pub chain_over : (scope : Scope) (e : Expr) (tokens rest : List Token) → height e ≤ suc k → goes_postfix k low e (seen rest) ≡ false → (x : Chain scope e tokens rest) → postfixes k low scope x.first x.mid ≡ Found e rest
+  pub chain_over : (scope : Scope) (e : Expr) (tokens rest : List Token) → height e ≤ suc k → goes_postfix e (seen rest) ≡ false → (x : Chain scope e tokens rest) → postfixes k low scope x.first x.mid ≡ Found e rest
   unfolding postfixes climbing
   chain_over scope e tokens rest high over x =
       let same : k ≡ (k - turns e) + turns e = let h = turns_low e in omega arith in
       ap (λ n. climbing scope n x.first x.mid) same ∙ x.climbs (k - turns e)
-      ∙ climb_over (goes_postfix k low) (λ e. nat_le (height e) k) (postfix_on k low scope) (k - turns e) e rest over
+      ∙ climb_over goes_postfix (λ e. nat_le (height e) k) (postfix_on k low scope) (k - turns e) e rest over
 
   -- ---- primary expressions
 

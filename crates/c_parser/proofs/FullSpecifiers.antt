@@ -18,7 +18,9 @@ use Rattle.c_parser.specs.declared.specifier.Storage.TheVariants as storage
 use Rattle.c_parser.specs.Height.{specifier_height, specifiers_height}
 use Rattle.c_parser.specs.Operators.{storage_word, qualifier_word, basic_word, compound_word}
 use Rattle.c_parser.specs.Reader.{Found, Reader, seen, place, tail}
-use Rattle.c_parser.specs.ReadSpecifier.{Come, Nothing, Basic, Other, Specified, goes_specifier, come_with, specified_with, comes, word_at, low_specifier_by, low_specifier, with_type, specifiers_by}
+use Rattle.c_parser.specs.declared.read.specifier.Come.{Come}
+use Rattle.c_parser.specs.declared.read.specifier.Come.TheVariants.{Nothing, Basic, Other}
+use Rattle.c_parser.specs.ReadSpecifier.{Specified, goes_specifier, come_with, specified_with, comes, word_at, low_specifier_by, low_specifier, with_type, specifiers_by}
 use Rattle.c_parser.specs.ReadToken.{is_mark}
 use Rattle.c_parser.specs.Scopes.{Scope, is_type, specifier_adds}
 use Rattle.c_parser.specs.Spelling.{spell_specifier, spell_specifiers}

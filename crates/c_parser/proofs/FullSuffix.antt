@@ -7,8 +7,8 @@ use Rattle.c_lexer.specs.declared.punct.Punct.TheVariants as p
 use Rattle.c_lexer.specs.declared.token.Token.{Token}
 use Rattle.c_lexer.specs.declared.token.Body.{Body}
 use Rattle.c_lexer.specs.declared.token.Body.TheVariants as body
-use Rattle.c_parser.specs.Form.{Form}
-use Rattle.c_parser.specs.Form as form
+use Rattle.c_parser.specs.declared.form.Form.{Form}
+use Rattle.c_parser.specs.declared.form.Form.TheVariants as form
 use Rattle.c_parser.specs.Height.{maybe_height, declarator_height, parameters_height}
 use Rattle.c_parser.specs.Levels.{conditional}
 use Rattle.c_parser.specs.Reader.{Found, Reader, ◌>>=◌, give, skip, seen, tail, exactly, climb}
@@ -180,7 +180,7 @@ module _ (k : ℕ) (low : Readers) (full : AllFull k low) where
   -- ---- the climb from what stands innermost
 
   pub climbing : Scope → ℕ → Declarator → Reader Declarator
-  climbing scope = climb (goes_suffix k low) (λ d. nat_le (declarator_height d) k) (suffix_on k low scope)
+  climbing scope = climb goes_suffix (λ d. nat_le (declarator_height d) k) (suffix_on k low scope)
 
   pub record Chain (shape : Form) (scope : Scope) (one : Declarator) (tokens rest : List Token) : Type 0 where
     pub first : Declarator
@@ -204,7 +204,7 @@ module _ (k : ℕ) (low : Readers) (full : AllFull k low) where
     climbs = λ n. let same : n + turns one ≡ n = omega arith in ap (λ n. climbing scope n one rest) same;
   }
 
-  extend : (shape : Form) (scope : Scope) (one left : Declarator) (tokens mid rest : List Token) → turns one ≡ suc (turns left) → declarator_height left ≤ k → goes_suffix k low left (seen mid) ≡ true → suffix_on k low scope left mid ≡ Found one rest → Chain shape scope left tokens mid
+  extend : (shape : Form) (scope : Scope) (one left : Declarator) (tokens mid rest : List Token) → turns one ≡ suc (turns left) → declarator_height left ≤ k → goes_suffix left (seen mid) ≡ true → suffix_on k low scope left mid ≡ Found one rest → Chain shape scope left tokens mid
       → Chain shape scope one tokens rest
   unfolding climbing
   extend shape scope one left tokens mid rest more high goes reads x = record {
@@ -218,7 +218,7 @@ module _ (k : ℕ) (low : Readers) (full : AllFull k low) where
     climbs = λ n.
         let same : n + turns one ≡ suc n + turns left = omega arith in
         ap (λ n. climbing scope n x.first x.mid) same ∙ x.climbs (suc n)
-        ∙ climb_step (goes_suffix k low) (λ d. nat_le (declarator_height d) k) (suffix_on k low scope) n left one mid rest goes (le-leb (declarator_height left) k high) reads;
+        ∙ climb_step goes_suffix (λ d. nat_le (declarator_height d) k) (suffix_on k low scope) n left one mid rest goes (le-leb (declarator_height left) k high) reads;
   }
 
   pub chain : (one : Declarator) (shape : Form) (scope : Scope) (tokens rest : List Token) → IsDirect one → HasToken one → IsDeclarator one scope → HasForm shape scope one → declarator_height one ≤ suc k → Takes tokens (spell_declarator one) rest → Chain shape scope one tokens rest
@@ -232,7 +232,7 @@ module _ (k : ℕ) (low : Readers) (full : AllFull k low) where
       let both = takes_parted tokens rest (spell_declarator inner ++ length_of) (mark p.CloseBracket ∷ []) all in
       let x = takes_parted tokens both.mid (spell_declarator inner) length_of both.one in
       let f = front x.mid both.mid length_of x.two in
-      extend shape scope (ArrayOf inner length) inner tokens x.mid rest refl (omega arith) (ap (goes_suffix k low inner) f.0)
+      extend shape scope (ArrayOf inner length) inner tokens x.mid rest refl (omega arith) (ap (goes_suffix inner) f.0)
       (array_again scope inner length x.mid both.mid rest is.2 (omega arith) x.two both.two)
       (chain inner shape scope tokens x.mid is.0 tt is.1 (array_form shape scope inner length has) (omega arith) x.one)
   chain (FunctionOf Omitted parameters variadic) shape scope tokens rest direct token is has high all = start shape scope (FunctionOf Omitted parameters variadic) tokens rest refl tt is has high all
@@ -242,11 +242,11 @@ module _ (k : ℕ) (low : Readers) (full : AllFull k low) where
       let both = takes_parted tokens close.mid (spell_declarator inner ++ list) (ellipsis_if variadic) close.one in
       let x = takes_parted tokens both.mid (spell_declarator inner) list both.one in
       let f = front x.mid both.mid list x.two in
-      extend shape scope (FunctionOf inner parameters variadic) inner tokens x.mid rest refl (omega arith) (ap (goes_suffix k low inner) f.0)
+      extend shape scope (FunctionOf inner parameters variadic) inner tokens x.mid rest refl (omega arith) (ap (goes_suffix inner) f.0)
       (function_again scope inner parameters variadic x.mid both.mid close.mid rest is.2 is.3 (omega arith) x.two both.two close.two)
       (chain inner shape scope tokens x.mid is.0 tt is.1 (function_form shape scope inner parameters variadic has) (omega arith) x.one)
 
-  suffix_over : (left : Declarator) (o : Option Body) → begins_declarator form.Parameter o ≡ false → goes_suffix k low left o ≡ false
+  suffix_over : (left : Declarator) (o : Option Body) → begins_declarator form.Parameter o ≡ false → goes_suffix left o ≡ false
   suffix_over left (Some (body.Mark p.OpenBracket)) h = absurd (cc)
   suffix_over left (Some (body.Mark p.OpenParen)) h = absurd (cc)
   suffix_over left o h = refl
@@ -256,4 +256,4 @@ module _ (k : ℕ) (low : Readers) (full : AllFull k low) where
   chain_over shape scope one tokens rest has high over x =
       let same : k ≡ (k - turns one) + turns one = let h = turns_low one has in omega arith in
       ap (λ n. climbing scope n x.first x.mid) same ∙ x.climbs (k - turns one)
-      ∙ climb_over (goes_suffix k low) (λ d. nat_le (declarator_height d) k) (suffix_on k low scope) (k - turns one) one rest (suffix_over one (seen rest) over)
+      ∙ climb_over goes_suffix (λ d. nat_le (declarator_height d) k) (suffix_on k low scope) (k - turns one) one rest (suffix_over one (seen rest) over)

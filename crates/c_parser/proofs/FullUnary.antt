@@ -11,7 +11,7 @@ use Rattle.c_parser.specs.declared.operator.Measure.{Measure}
 use Rattle.c_parser.specs.declared.operator.Measure.TheVariants as measure
 use Rattle.c_parser.specs.declared.operator.Prefix.{Prefix}
 use Rattle.c_parser.specs.declared.operator.Prefix.TheVariants as prefix
-use Rattle.c_parser.specs.Form as form
+use Rattle.c_parser.specs.declared.form.Form.TheVariants as form
 use Rattle.c_parser.specs.Height.{height, type_name_height}
 use Rattle.c_parser.specs.Levels.{expression, cast, unary, postfix, operand_level}
 use Rattle.c_parser.specs.Operators.{prefix_token, measure_word}

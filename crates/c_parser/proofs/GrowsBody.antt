@@ -2,7 +2,7 @@
 use Rattle.std.proofs.Common.{ℕ, zero, suc, ◌≤◌, nat_le, Bool, true, false, List, [], ◌∷◌, ◌++◌, Option, Some, None, arith}
 use Rattle.critical_table.specs.declared.pos.Pos.{Pos}
 use Rattle.c_lexer.specs.declared.punct.Punct.TheVariants as p
-use Rattle.c_parser.specs.Form as form
+use Rattle.c_parser.specs.declared.form.Form.TheVariants as form
 use Rattle.c_parser.specs.TreeUnit.{Single, Braces, Item, Plain, ForMember, ForIndex, InitDeclarator, Declaration}
 use Rattle.c_parser.specs.Levels.{assignment, conditional}
 use Rattle.c_parser.specs.Reader.{Reader, Unfit, ◌>>=◌, give, stop, skip, exactly, ones}

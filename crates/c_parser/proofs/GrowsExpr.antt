@@ -59,10 +59,10 @@ module _ (k k' : ℕ) (le : k ≤ k') (low low' : Readers) (on : AllGrown low lo
       by : (o : Option Body) → Grown (postfix_by k low scope left o) (postfix_by k' low' scope left o)
       by (Some (body.Mark p.OpenBracket)) = index_grown scope left
       by (Some (body.Mark p.OpenParen)) = call_grown scope left
-      by (Some (body.Mark p.Dot)) = grown_same (access_name k low access.Dot left)
-      by (Some (body.Mark p.Arrow)) = grown_same (access_name k low access.Arrow left)
-      by (Some (body.Mark p.Increment)) = grown_same (step_by_one k low postfix.PostInc left)
-      by (Some (body.Mark p.Decrement)) = grown_same (step_by_one k low postfix.PostDec left)
+      by (Some (body.Mark p.Dot)) = grown_same (access_name access.Dot left)
+      by (Some (body.Mark p.Arrow)) = grown_same (access_name access.Arrow left)
+      by (Some (body.Mark p.Increment)) = grown_same (step_by_one postfix.PostInc left)
+      by (Some (body.Mark p.Decrement)) = grown_same (step_by_one postfix.PostDec left)
       by o = grown_same (stop Unfit)
 
   postfixes_grown : (scope : Scope) (left : Expr) → Grown (postfixes k low scope left) (postfixes k' low' scope left)

@@ -12,7 +12,8 @@ use Rattle.c_parser.specs.Levels.{conditional}
 use Rattle.c_parser.specs.Reader.{Reader, Unfit, ◌>>=◌, give, stop, skip, exactly}
 use Rattle.c_parser.specs.ReadToken.{is_mark, name_of}
 use Rattle.c_parser.specs.ReadExpr.{Readers}
-use Rattle.c_parser.specs.ReadSpecifier.{Nothing, Specified, goes_specifier, specified_with, comes, word_at, more_members, compound_body, compound_by, compound_tag, compound_on, compound, value_by, enumerator_on, enumerator_by, enumerator, listed_enumerators, enum_body, enum_by, enum_tag, enum_on, enumeration, specifier_by, low_specifier_by, low_specifier, specifier_at, with_type, specifiers_by}
+use Rattle.c_parser.specs.declared.read.specifier.Come.TheVariants.{Nothing}
+use Rattle.c_parser.specs.ReadSpecifier.{Specified, goes_specifier, specified_with, comes, word_at, more_members, compound_body, compound_by, compound_tag, compound_on, compound, value_by, enumerator_on, enumerator_by, enumerator, listed_enumerators, enum_body, enum_by, enum_tag, enum_on, enumeration, specifier_by, low_specifier_by, low_specifier, specifier_at, with_type, specifiers_by}
 use Rattle.c_parser.specs.Scopes.{Scope, member_adds}
 use Rattle.c_parser.specs.Tree.{Specifier, CompoundTag, Compound, EnumTag, Enum, TypedefName, Enumerates, Without, With}
 use Rattle.c_parser.specs.View.{members, enumerators}

@@ -88,3 +88,18 @@ pub mod ViableCompound
 pub mod ViableSpecifier
 pub mod ViablePostfix
 pub mod ViableUnary
+mod NextToken
+mod LowerReaders
+mod Turns
+mod Refused
+mod Pushed
+mod PushedDeclarator
+mod Adding
+mod SpecifierTurns
+mod PushedBody
+mod RowsUnit
+mod LowerStatements
+mod InScope
+mod ForParts
+mod Kept
+mod UnitTurns

@@ -4,7 +4,7 @@ use Rattle.critical_table.specs.declared.pos.Pos.{Pos}
 use Rattle.c_lexer.specs.declared.punct.Punct.TheVariants as p
 use Rattle.c_lexer.specs.declared.token.Body.{Body}
 use Rattle.c_lexer.specs.declared.token.Body.TheVariants as body
-use Rattle.c_parser.specs.Form as form
+use Rattle.c_parser.specs.declared.form.Form.TheVariants as form
 use Rattle.c_parser.specs.TreeUnit.{Single, Braces, Item, Plain, ForMember, ForIndex, InitDeclarator, Declaration, Assert}
 use Rattle.c_parser.specs.Levels.{assignment, conditional}
 use Rattle.c_parser.specs.Reader.{Reader, Unfit, TooDeep, ◌>>=◌, give, stop, look, skip, deeper, exactly, ones}
@@ -82,7 +82,7 @@ module _ (k : ℕ) where
   init_on_online names_type scope one =
       online_look _ (λ o. init_by_online (scope ++ declarator_adds one ++ declared_if names_type (own_name one)) one (is_mark p.Assign o))
 
-  init_declarator_online : (names_type : Bool) (scope : Scope) → Online (init_declarator k names_type scope)
+  pub init_declarator_online : (names_type : Bool) (scope : Scope) → Online (init_declarator k names_type scope)
   unfolding init_declarator
   init_declarator_online names_type scope = online_bind _ _ ((readers_online k).declarator form.Named scope) (init_on_online names_type scope)
 

@@ -4,8 +4,8 @@ use Rattle.critical_table.specs.declared.pos.Pos.{Pos}
 use Rattle.c_lexer.specs.declared.punct.Punct.TheVariants as p
 use Rattle.c_lexer.specs.declared.token.Body.{Body}
 use Rattle.c_lexer.specs.declared.token.Body.TheVariants as body
-use Rattle.c_parser.specs.Form.{Form}
-use Rattle.c_parser.specs.Form as form
+use Rattle.c_parser.specs.declared.form.Form.{Form}
+use Rattle.c_parser.specs.declared.form.Form.TheVariants as form
 use Rattle.c_parser.specs.declared.specifier.Qualifier.{Qualifier}
 use Rattle.c_parser.specs.Levels.{conditional}
 use Rattle.c_parser.specs.Reader.{Reader, Unfit, TooDeep, ◌>>=◌, give, exactly}
@@ -36,11 +36,11 @@ qualifier_by_takes : (o : Option Qualifier) → TakesOne (qualifier_by o)
 qualifier_by_takes (Some word) = takes_skip _ (online_give word)
 qualifier_by_takes None = takes_stop Unfit
 
-qualifier_online : Online qualifier
+pub qualifier_online : Online qualifier
 unfolding qualifier
 qualifier_online = online_look _ (λ o. qualifier_by_online (qualifier_of o))
 
-qualifier_takes : TakesOne qualifier
+pub qualifier_takes : TakesOne qualifier
 unfolding qualifier
 qualifier_takes = takes_look (λ o. qualifier_by (qualifier_of o)) (λ next. qualifier_by_takes (qualifier_of (Some next)))
 

@@ -35,7 +35,7 @@ named_online None more on = online_stop Unfit
 
 -- ---- more literals of one width
 
-piece_online : Online piece
+pub piece_online : Online piece
 unfolding piece
 piece_online = online_look _ by
   where
@@ -44,7 +44,7 @@ piece_online = online_look _ by
     by (Some next) = online_stop Unfit
     by None = online_stop Unfit
 
-piece_takes : TakesOne piece
+pub piece_takes : TakesOne piece
 unfolding piece
 piece_takes = takes_look piece_by by
   where
@@ -52,7 +52,7 @@ piece_takes = takes_look piece_by by
     by (body.Literal units wide) = takes_skip _ (online_give units)
     by next = takes_stop Unfit
 
-no_literal : (wide : Bool) → is_literal wide None ≡ false
+pub no_literal : (wide : Bool) → is_literal wide None ≡ false
 no_literal true = refl
 no_literal false = refl
 
@@ -83,11 +83,11 @@ module _ (k : ℕ) (low : Readers) (on : AllOnline low) where
   unfolding call
   call_online scope left = online_here _ (λ pos. online_skip _ (online_bind _ _ (arguments_online (scope ++ expr_adds left)) (λ all. online_give (Call pos left all))))
 
-  access_name_online : (operator : Access) (left : Expr) → Online (access_name k low operator left)
+  access_name_online : (operator : Access) (left : Expr) → Online (access_name operator left)
   unfolding access_name
   access_name_online operator left = online_here _ (λ pos. online_skip _ (online_look _ (λ o. named_online (name_of o) _ (λ x. online_give (Member pos operator left x)))))
 
-  step_by_one_online : (operator : Postfix) (left : Expr) → Online (step_by_one k low operator left)
+  step_by_one_online : (operator : Postfix) (left : Expr) → Online (step_by_one operator left)
   unfolding step_by_one
   step_by_one_online operator left = online_here _ (λ pos. online_skip _ (online_give (Postfix' pos operator left)))
 

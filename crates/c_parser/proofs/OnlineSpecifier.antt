@@ -15,7 +15,9 @@ use Rattle.c_parser.specs.Levels.{conditional}
 use Rattle.c_parser.specs.Reader.{Reader, Unfit, TooDeep, Found, and_then, ◌>>=◌, give, look, choose, go, many}
 use Rattle.c_parser.specs.ReadToken.{is_mark, is_word, name_of, storage_of, qualifier_of, basic_of}
 use Rattle.c_parser.specs.ReadExpr.{Readers}
-use Rattle.c_parser.specs.ReadSpecifier.{Come, Nothing, Basic, Other, Specified, goes_specifier, specified_with, comes, word_by, word_at, more_members, compound_body, compound_by, compound_tag, compound_on, compound, value_by, enumerator_on, enumerator_by, enumerator, listed_enumerators, enum_body, enum_by, enum_tag, enum_on, enumeration, specifier_by, low_specifier_by, low_specifier, specifier_at, with_type, specifiers_by}
+use Rattle.c_parser.specs.declared.read.specifier.Come.{Come}
+use Rattle.c_parser.specs.declared.read.specifier.Come.TheVariants.{Nothing, Basic, Other}
+use Rattle.c_parser.specs.ReadSpecifier.{Specified, goes_specifier, specified_with, comes, word_by, word_at, more_members, compound_body, compound_by, compound_tag, compound_on, compound, value_by, enumerator_on, enumerator_by, enumerator, listed_enumerators, enum_body, enum_by, enum_tag, enum_on, enumeration, specifier_by, low_specifier_by, low_specifier, specifier_at, with_type, specifiers_by}
 use Rattle.c_parser.specs.Scopes.{Scope, member_adds}
 use Rattle.c_parser.specs.Tree.{Specifier, Storage', Qualifier', Inline, BasicWord', CompoundTag, Compound, EnumTag, Enum, TypedefName, Enumerates, Without, With}
 use Rattle.c_parser.specs.View.{specifiers, members, enumerators}
@@ -85,7 +87,7 @@ module _ (k : ℕ) (low : Readers) (on : AllOnline low) (takes : (scope : Scope)
   enumerator_by_online scope pos (Some x) = online_skip _ (enumerator_on_online scope pos x)
   enumerator_by_online scope pos None = online_stop Unfit
 
-  enumerator_online : (scope : Scope) → Online (enumerator k low scope)
+  pub enumerator_online : (scope : Scope) → Online (enumerator k low scope)
   unfolding enumerator
   enumerator_online scope = online_here _ (λ pos. online_look _ (λ o. enumerator_by_online scope pos (name_of o)))
 

@@ -126,7 +126,7 @@ online_before p test f on on' = online_bind p _ on (λ a. online_bind (exactly t
 abbrev pub TakesOne : {A : Type 0} → Reader A → Type 0
 TakesOne {A} p = (token : Token) (tokens rest : List Token) (a : A) → p (token ∷ tokens) ≡ Found a rest → length rest ≤ length tokens
 
-no_longer : {A : Type 0} (p : Reader A) → Online p → (tokens rest : List Token) (a : A) → p tokens ≡ Found a rest → length rest ≤ length tokens
+pub no_longer : {A : Type 0} (p : Reader A) → Online p → (tokens rest : List Token) (a : A) → p tokens ≡ Found a rest → length rest ≤ length tokens
 no_longer p on tokens rest a h =
     let x = on tokens in
     let e : length tokens ≡ length (x.before ++ rest_of (p tokens)) = ap length x.parts in
@@ -198,7 +198,7 @@ module _ {S A : Type 0} (goes : S → Option Body → Bool) (step : S → Reader
           by true same = same
           by false same = refl
 
-      many_is : (n : ℕ) (s : S) (tokens : List Token) → length tokens < n → many goes step next s tokens ≡ go goes step next n s tokens
+      pub many_is : (n : ℕ) (s : S) (tokens : List Token) → length tokens < n → many goes step next s tokens ≡ go goes step next n s tokens
       unfolding many
       many_is n s tokens low = go_same (suc (length tokens)) n s tokens (omega arith) low
 
@@ -246,15 +246,15 @@ module _ {S A : Type 0} (is_comma ends : Option Body → Bool) (ending : Reader 
   one_more_online : (l : Listing S) (o : Option Body) → Online (choose (ends o) (ending >>= λ _. give {A = Option A} None) (one l.state >>= λ a. give (Some a)))
   one_more_online l o = online_choose (ends o) _ _ (online_bind ending _ ending_on (λ _. online_give None)) (online_bind (one l.state) _ (on l.state) (λ a. online_give (Some a)))
 
-  behind_online : (l : Listing S) → Online (behind_comma is_comma ends ending one next l)
+  pub behind_online : (l : Listing S) → Online (behind_comma is_comma ends ending one next l)
   unfolding behind_comma
   behind_online l = online_skip _ (online_look _ (one_more_online l))
 
-  behind_takes : (l : Listing S) → TakesOne (behind_comma is_comma ends ending one next l)
+  pub behind_takes : (l : Listing S) → TakesOne (behind_comma is_comma ends ending one next l)
   unfolding behind_comma
   behind_takes l = takes_skip _ (online_look _ (one_more_online l))
 
-  no_comma : (l : Listing S) → goes_listing is_comma ends ending one next l None ≡ false
+  pub no_comma : (l : Listing S) → goes_listing is_comma ends ending one next l None ≡ false
   no_comma l = by l.over
     where
       by : (over : Bool) → goes_listing is_comma ends ending one next (record { state = l.state; over = over }) None ≡ false

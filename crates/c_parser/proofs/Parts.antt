@@ -58,60 +58,77 @@ arguments_row : e.Expr → (count : _) × e.Row_of-Expr count
 arguments_row (e.Call' _ _ _ _ row) = (_, row)
 arguments_row _ = (_, e.end_of-Expr)
 
+pub call_of : (pos : Pos) (function : Box e.Expr Global) (all : Vec e.Expr Global)
+    → expr_of (e.Call pos function all) ≡ tree.Call pos (expr_of function.value) (exprs (map expr_of all.items))
+unfolding arguments_row
+call_of pos function all =
+    let row = arguments_row (e.Call pos function all) in
+    ap (λ list. tree.Call pos (expr_of function.value) list) (exprs_listed row.0 row.1 ∙ ap (λ list. exprs (map expr_of list)) (e.items_hidden-the_row-Expr-2 all))
+
 pub spells_call : (pos : Pos) (function : Box e.Expr Global) (all : Vec e.Expr Global)
     → spell (expr_of (e.Call pos function all))
     ≡ spell (expr_of function.value)
     ++ mark_at pos punct.OpenParen ∷ commas (map (λ x. spell (expr_of x)) all.items) ++ mark punct.CloseParen ∷ []
-unfolding arguments_row
 spells_call pos function all =
-    let row = arguments_row (e.Call pos function all) in
-    ap (λ list. spell (tree.Call pos (expr_of function.value) list)) (exprs_listed row.0 row.1 ∙ ap (λ list. exprs (map expr_of list)) (e.items_hidden-the_row-Expr-2 all))
+    ap spell (call_of pos function all)
     ∙ ap (λ list. spell (expr_of function.value) ++ mark_at pos punct.OpenParen ∷ commas list ++ mark punct.CloseParen ∷ []) (spelled_exprs all.items)
 
 measure_row : e.Expr → (count : _) × s.Row_of-Specifier count
 measure_row (e.Measure' _ _ _ _ row _) = (_, row)
 measure_row _ = (_, s.end_of-Specifier)
 
+pub measured : (pos : Pos) (operator : Measure) (type : Box t.TypeName Global)
+    → expr_of (e.Measure pos operator type) ≡ tree.Measure' pos operator (type_name_of type.value)
+unfolding measure_row
+measured pos operator type =
+    let row = measure_row (e.Measure pos operator type) in
+    ap
+    (λ list. tree.Measure' pos operator (tree.Type' list (declarator_of type.value.declarator)))
+    (specifiers_listed row.0 row.1 ∙ ap specifiers_of (s.items_hidden-the_row-Specifier-0 type.value.specifiers))
+
 pub spells_measure : (pos : Pos) (operator : Measure) (type : Box t.TypeName Global)
     → spell (expr_of (e.Measure pos operator type))
     ≡ word_at pos (measure_word operator)
     ∷ mark punct.OpenParen ∷ spell_type_name (type_name_of type.value) ++ mark punct.CloseParen ∷ []
-unfolding measure_row
-spells_measure pos operator type =
-    let row = measure_row (e.Measure pos operator type) in
-    ap
-    (λ list. spell (tree.Measure' pos operator (tree.Type' list (declarator_of type.value.declarator))))
-    (specifiers_listed row.0 row.1 ∙ ap specifiers_of (s.items_hidden-the_row-Specifier-0 type.value.specifiers))
+spells_measure pos operator type = ap spell (measured pos operator type)
 
 cast_row : e.Expr → (count : _) × s.Row_of-Specifier count
 cast_row (e.Cast' _ _ _ row _ _ _) = (_, row)
 cast_row _ = (_, s.end_of-Specifier)
 
+pub casts : (pos : Pos) (type : Box t.TypeName Global) (operand : Box e.Expr Global)
+    → expr_of (e.Cast pos type operand) ≡ tree.Cast pos (type_name_of type.value) (expr_of operand.value)
+unfolding cast_row
+casts pos type operand =
+    let row = cast_row (e.Cast pos type operand) in
+    ap
+    (λ list. tree.Cast pos (tree.Type' list (declarator_of type.value.declarator)) (expr_of operand.value))
+    (specifiers_listed row.0 row.1 ∙ ap specifiers_of (s.items_hidden-the_row-Specifier-0 type.value.specifiers))
+
 pub spells_cast : (pos : Pos) (type : Box t.TypeName Global) (operand : Box e.Expr Global)
     → spell (expr_of (e.Cast pos type operand))
     ≡ mark_at pos punct.OpenParen
     ∷ spell_type_name (type_name_of type.value) ++ mark punct.CloseParen ∷ spell (expr_of operand.value)
-unfolding cast_row
-spells_cast pos type operand =
-    let row = cast_row (e.Cast pos type operand) in
-    ap
-    (λ list. spell (tree.Cast pos (tree.Type' list (declarator_of type.value.declarator)) (expr_of operand.value)))
-    (specifiers_listed row.0 row.1 ∙ ap specifiers_of (s.items_hidden-the_row-Specifier-0 type.value.specifiers))
+spells_cast pos type operand = ap spell (casts pos type operand)
 
 members_of : s.Specifier → (count : _) × s.Row_of-MemberDeclaration count
 members_of (s.Compound' _ _ _ _ row) = (_, row)
 members_of _ = (_, s.end_of-MemberDeclaration)
 
+pub compound_tree : (pos : Pos) (compound : CompoundWord) (tag : Option Tag) (all : Vec m.MemberDeclaration Global)
+    → specifier_of (s.Compound pos compound tag all) ≡ tree.Compound pos compound tag (members (map member_of all.items))
+unfolding members_of
+compound_tree pos compound tag all =
+    let row = members_of (s.Compound pos compound tag all) in
+    ap (tree.Compound pos compound tag)
+    (members_listed row.0 row.1 ∙ ap (λ list. members (map member_of list)) (s.items_hidden-the_row-MemberDeclaration-4 all))
+
 pub spells_compound : (pos : Pos) (compound : CompoundWord) (tag : Option Tag) (all : Vec m.MemberDeclaration Global)
     → spell_specifier (specifier_of (s.Compound pos compound tag all))
     ≡ word_at pos (compound_word compound) ∷ spell_tag tag
     ++ mark punct.OpenBrace ∷ flat_map (λ x. spell_member (member_of x)) all.items ++ mark punct.CloseBrace ∷ []
-unfolding members_of
 spells_compound pos compound tag all =
-    let row = members_of (s.Compound pos compound tag all) in
-    ap
-    (λ list. spell_specifier (tree.Compound pos compound tag list))
-    (members_listed row.0 row.1 ∙ ap (λ list. members (map member_of list)) (s.items_hidden-the_row-MemberDeclaration-4 all))
+    ap spell_specifier (compound_tree pos compound tag all)
     ∙ ap
     (λ list. word_at pos (compound_word compound) ∷ spell_tag tag
     ++ mark punct.OpenBrace ∷ list ++ mark punct.CloseBrace ∷ [])
@@ -121,17 +138,21 @@ enumerators_of : s.Specifier → (count : _) × s.Row_of-Enumerator count
 enumerators_of (s.Enum' _ _ _ row _) = (_, row)
 enumerators_of _ = (_, s.end_of-Enumerator)
 
+pub enum_tree : (pos : Pos) (tag : Option Tag) (all : Vec n.Enumerator Global) (comma : Bool)
+    → specifier_of (s.Enum pos tag all comma) ≡ tree.Enum pos tag (enumerators (map enumerator_of all.items)) comma
+unfolding enumerators_of
+enum_tree pos tag all comma =
+    let row = enumerators_of (s.Enum pos tag all comma) in
+    ap (λ list. tree.Enum pos tag list comma)
+    (enumerators_listed row.0 row.1 ∙ ap (λ list. enumerators (map enumerator_of list)) (s.items_hidden-the_row-Enumerator-5 all))
+
 pub spells_enum : (pos : Pos) (tag : Option Tag) (all : Vec n.Enumerator Global) (comma : Bool)
     → spell_specifier (specifier_of (s.Enum pos tag all comma))
     ≡ word_at pos w.Enum ∷ spell_tag tag
     ++ mark punct.OpenBrace ∷ commas (map (λ x. spell_enumerator (enumerator_of x)) all.items)
     ++ comma_if comma ++ mark punct.CloseBrace ∷ []
-unfolding enumerators_of
 spells_enum pos tag all comma =
-    let row = enumerators_of (s.Enum pos tag all comma) in
-    ap
-    (λ list. spell_specifier (tree.Enum pos tag list comma))
-    (enumerators_listed row.0 row.1 ∙ ap (λ list. enumerators (map enumerator_of list)) (s.items_hidden-the_row-Enumerator-5 all))
+    ap spell_specifier (enum_tree pos tag all comma)
     ∙ ap
     (λ list. word_at pos w.Enum ∷ spell_tag tag
     ++ mark punct.OpenBrace ∷ commas list ++ comma_if comma ++ mark punct.CloseBrace ∷ [])
@@ -141,17 +162,23 @@ parameters_row_of : d.Declarator → (count : _) × d.Row_of-Parameter count
 parameters_row_of (d.FunctionOf' _ _ _ row _) = (_, row)
 parameters_row_of _ = (_, d.end_of-Parameter)
 
+pub function_seen : (inner : Box d.Declarator Global) (all : Vec p.Parameter Global) (variadic : Bool)
+    → declarator_of (d.FunctionOf inner all variadic)
+    ≡ tree.FunctionOf (declarator_of inner.value) (parameters (map parameter_of all.items)) variadic
+unfolding parameters_row_of
+function_seen inner all variadic =
+    let row = parameters_row_of (d.FunctionOf inner all variadic) in
+    ap
+    (λ list. tree.FunctionOf (declarator_of inner.value) list variadic)
+    (parameters_listed row.0 row.1 ∙ ap (λ list. parameters (map parameter_of list)) (d.items_hidden-the_row-Parameter-1 all))
+
 pub spells_function : (inner : Box d.Declarator Global) (all : Vec p.Parameter Global) (variadic : Bool)
     → spell_declarator (declarator_of (d.FunctionOf inner all variadic))
     ≡ spell_declarator (declarator_of inner.value)
     ++ mark punct.OpenParen ∷ commas (map (λ x. spell_parameter (parameter_of x)) all.items)
     ++ ellipsis_if variadic ++ mark punct.CloseParen ∷ []
-unfolding parameters_row_of
 spells_function inner all variadic =
-    let row = parameters_row_of (d.FunctionOf inner all variadic) in
-    ap
-    (λ list. spell_declarator (tree.FunctionOf (declarator_of inner.value) list variadic))
-    (parameters_listed row.0 row.1 ∙ ap (λ list. parameters (map parameter_of list)) (d.items_hidden-the_row-Parameter-1 all))
+    ap spell_declarator (function_seen inner all variadic)
     ∙ ap
     (λ list. spell_declarator (declarator_of inner.value)
     ++ mark punct.OpenParen ∷ commas list ++ ellipsis_if variadic ++ mark punct.CloseParen ∷ [])

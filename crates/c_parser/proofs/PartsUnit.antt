@@ -16,11 +16,17 @@ use Rattle.c_parser.specs.declared.unit.Function as u
 use Rattle.c_parser.specs.Tokens.{commas, comma_if, mark, mark_at, word_at}
 use Rattle.c_parser.specs.Spelling.{spell_specifier, spell_declarator}
 use Rattle.c_parser.specs.SpellingUnit.{spell_initializer, spell_item, spelled_items, spell_init_declarator, spell_declaration, spell_controlling, spell_statement, spell_block_item, spell_block_items, spell_switch_item, spell_switch_items, spell_function}
+use Rattle.c_parser.specs.ReadBody.{items}
+use Rattle.c_parser.specs.TreeUnit.{Braces, MoreItems}
 use Rattle.c_parser.specs.View.{expr_of, specifier_of, declarator_of}
 use Rattle.c_parser.specs.ViewUnit.{initializer_of, item_of, items_row, init_declarator_of, declaration_of, statement_of, block_item_of, block_row, block_items, switch_item_of, switch_row, function_of}
 use Rattle.c_parser.proofs.Parts.{spells_specifiers}
 
 -- ---- lists
+
+items_listed : (count : _) (row : i.Row_of-Item count) → items_row row ≡ items (map item_of (i.items-the_row-Item count row))
+items_listed count i.end_of-Item = refl
+items_listed count (i.more_of-Item first rest) = ap (MoreItems (item_of first)) (items_listed _ rest)
 
 spelled_row : (count : _) (row : i.Row_of-Item count)
     → spelled_items (items_row row) ≡ map (λ x. spell_item (item_of x)) (i.items-the_row-Item count row)
@@ -54,6 +60,12 @@ spelled_inits (first ∷ rest) = ap (λ more. spell_init_declarator (init_declar
 items_of : i.Initializer → (count : _) × i.Row_of-Item count
 items_of (i.Braces' _ _ row _) = (_, row)
 items_of _ = (_, i.end_of-Item)
+
+pub built_braces : (pos : Pos) (all : Vec m.Item Global) (comma : Bool) → initializer_of (i.Braces pos all comma) ≡ Braces pos (items (map item_of all.items)) comma
+unfolding items_of
+built_braces pos all comma =
+    let row = items_of (i.Braces pos all comma) in
+    ap (λ list. Braces pos list comma) (items_listed row.0 row.1 ∙ ap (λ list. items (map item_of list)) (i.items_hidden-the_row-Item-0 all))
 
 pub spells_braces : (pos : Pos) (all : Vec m.Item Global) (comma : Bool)
     → spell_initializer (initializer_of (i.Braces pos all comma))

@@ -5,6 +5,7 @@ use Rattle.critical_table.specs.declared.refusal.Refusal.{Refusal}
 use Rattle.critical_table.specs.declared.refusal.Refusal.TheVariants.{Syntax, Deep}
 use Rattle.c_lexer.specs.declared.token.Token.{Token}
 use Rattle.c_lexer.specs.Stream.{Stream}
+use Rattle.c_parser.specs.Agree.{stopped_at}
 use Rattle.c_parser.specs.Begin.{BeginsTree}
 use Rattle.c_parser.specs.HeightUnit.{greatest_height}
 use Rattle.c_parser.specs.Parsing.{SpelledBy, RefusedAtToken, RefusedAt}
@@ -18,11 +19,6 @@ use Rattle.c_parser.proofs.ViableBody.{externals_viable}
 abbrev pub reason_of : Why → Refusal
 reason_of Unfit = Syntax
 reason_of TooDeep = Deep
-
--- the place of the next token, or behind the last byte
-abbrev pub stopped_at : Stream → List Token → Pos
-stopped_at stream [] = stream.end
-stopped_at stream (token ∷ after) = token.pos
 
 at_token : (stream : Stream) (why : Why) (token : Token) (after : List Token) → externals 254 stream.tokens ≡ Stopped why (token ∷ after) → Holds BeginsTree greatest_height stream.tokens why (token ∷ after)
     → RefusedAtToken stream (reason_of why) token.pos

@@ -5,7 +5,7 @@ use Rattle.std.specs.List.{flat_map}
 use Rattle.c_lexer.specs.declared.punct.Punct.TheVariants as p
 use Rattle.c_lexer.specs.declared.token.Token.{Token}
 use Rattle.c_lexer.specs.declared.word.Word.TheVariants as w
-use Rattle.c_parser.specs.Form as form
+use Rattle.c_parser.specs.declared.form.Form.TheVariants as form
 use Rattle.c_parser.specs.HeightUnit.{block_items_height, external_height, externals_height}
 use Rattle.c_parser.specs.Reader.{Found, ◌>>=◌, give, look, seen, tail, many}
 use Rattle.c_parser.specs.ReadBody.{declared_on, assert_at, block_lower, is_body, function_scope, external_declared, external_on, external_by, external_at, externals, statements}

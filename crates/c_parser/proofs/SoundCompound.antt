@@ -13,7 +13,8 @@ use Rattle.c_parser.specs.Levels.{conditional}
 use Rattle.c_parser.specs.Operators.{compound_word}
 use Rattle.c_parser.specs.Reader.{Found, seen, place, tail, give, exactly, ◌>>=◌}
 use Rattle.c_parser.specs.ReadExpr.{Readers}
-use Rattle.c_parser.specs.ReadSpecifier.{Specified, Come, is_nothing, is_other, more_members, compound_body, compound_by, compound_tag, compound_on, compound, value_by, enumerator_on, enumerator_by, enumerator, listed_enumerators, enum_body, enum_by, enum_tag, enum_on, enumeration}
+use Rattle.c_parser.specs.declared.read.specifier.Come.{Come}
+use Rattle.c_parser.specs.ReadSpecifier.{Specified, is_nothing, is_other, more_members, compound_body, compound_by, compound_tag, compound_on, compound, value_by, enumerator_on, enumerator_by, enumerator, listed_enumerators, enum_body, enum_by, enum_tag, enum_on, enumeration}
 use Rattle.c_parser.specs.ReadToken.{is_mark, name_of, begins_type}
 use Rattle.c_parser.specs.Scopes.{Scope, member_adds, enumerator_adds}
 use Rattle.c_parser.specs.Spelling.{spell_tag, spell_specifier, spell_members, spell_enumerator, spelled_enumerators, spell_member}

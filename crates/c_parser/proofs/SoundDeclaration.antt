@@ -7,7 +7,7 @@ use Rattle.c_lexer.specs.declared.token.Token.{Token}
 use Rattle.c_lexer.specs.declared.token.Body.{Body}
 use Rattle.c_lexer.specs.declared.token.Body.TheVariants as body
 use Rattle.c_lexer.specs.declared.word.Word.TheVariants as w
-use Rattle.c_parser.specs.Form as form
+use Rattle.c_parser.specs.declared.form.Form.TheVariants as form
 use Rattle.c_parser.specs.Levels.{conditional}
 use Rattle.c_parser.specs.Height.{height, specifiers_height, declarator_height}
 use Rattle.c_parser.specs.HeightUnit.{init_declarators_height, declaration_height, assert_height}

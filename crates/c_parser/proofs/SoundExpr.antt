@@ -338,7 +338,7 @@ module _ (k : ℕ) (low : Readers) (sound : AllSound k low) where
         moved (IsRead scope level start) {a = Cond (place tokens) left x.value y.value} {tokens = y.mid} y.two
         (cond_read x.mid c.mid y.mid x.value y.value is at_most may (sound.expr inner expression (omega arith) (tail tokens) x.mid x.value x.one) c.spelt (sound.expr (inner ++ expr_adds x.value) conditional (omega arith) c.mid y.mid y.value y.one))
 
-    pub infix_by_sound : (m : Option Infix) → infix_of (seen tokens) ≡ m → goes_between k low level left m (is_mark p.Question (seen tokens)) ≡ true → infix_by k low scope left (place tokens) m tokens ≡ Found e rest → IsRead scope level start e rest
+    pub infix_by_sound : (m : Option Infix) → infix_of (seen tokens) ≡ m → goes_between level left m (is_mark p.Question (seen tokens)) ≡ true → infix_by k low scope left (place tokens) m tokens ≡ Found e rest → IsRead scope level start e rest
     infix_by_sound (Some operator) m goes h =
         let both = and_parts (nat_le level (infix_level operator)) (nat_le (left_level operator) (own_level left)) goes in
         between_sound operator (token_is (λ operator. body.Mark (infix_token operator)) _ _ operator (infix_is (seen tokens)) m) (leb-true level (infix_level operator) both.0) (leb-true (left_level operator) (own_level left) both.1) h
@@ -351,6 +351,6 @@ module _ (k : ℕ) (low : Readers) (sound : AllSound k low) where
   unfolding expr_at infixes infix_on
   expr_sound scope level low_level tokens rest e h =
       let x = bind_found (unary_at k low scope level tokens) (infixes k low scope level) e rest h in
-      climb_found (goes_infix k low level) (λ e. nat_le (height e) k) (infix_on k low scope) (IsRead scope level tokens)
+      climb_found (goes_infix level) (λ e. nat_le (height e) k) (infix_on k low scope) (IsRead scope level tokens)
       (λ left a here mid goes fits h before. infix_by_sound scope level low_level tokens here mid left a before (leb-true (height left) k fits) (infix_of (seen here)) refl goes h)
       k x.value e x.mid rest (unary_sound scope level low_level tokens x.mid x.value x.one) x.two

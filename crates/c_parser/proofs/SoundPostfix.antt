@@ -109,7 +109,7 @@ module _ (k : ℕ) (low : Readers) (sound : AllSound k low) where
           within = omega (arith, y.within);
         })
 
-    access_sound : (operator : Access) → seen tokens ≡ Some (body.Mark (access_token operator)) → access_name k low operator left tokens ≡ Found e rest → IsPostfix scope start e rest
+    access_sound : (operator : Access) → seen tokens ≡ Some (body.Mark (access_token operator)) → access_name operator left tokens ≡ Found e rest → IsPostfix scope start e rest
     unfolding access_name
     access_sound operator is h = by (name_of (seen (tail tokens))) refl h
       where
@@ -122,7 +122,7 @@ module _ (k : ℕ) (low : Readers) (sound : AllSound k low) where
               within = omega arith;
             })
 
-    step_sound : (operator : Postfix) → seen tokens ≡ Some (body.Mark (postfix_token operator)) → step_by_one k low operator left tokens ≡ Found e rest → IsPostfix scope start e rest
+    step_sound : (operator : Postfix) → seen tokens ≡ Some (body.Mark (postfix_token operator)) → step_by_one operator left tokens ≡ Found e rest → IsPostfix scope start e rest
     unfolding step_by_one
     step_sound operator is h =
         moved (IsPostfix scope start) h (record {
@@ -143,6 +143,6 @@ module _ (k : ℕ) (low : Readers) (sound : AllSound k low) where
   pub postfixes_sound : (scope : Scope) (start tokens rest : List Token) (left e : Expr) → IsPostfix scope start left tokens → postfixes k low scope left tokens ≡ Found e rest → IsPostfix scope start e rest
   unfolding postfixes postfix_on
   postfixes_sound scope start tokens rest left e before h =
-      climb_found (goes_postfix k low) (λ e. nat_le (height e) k) (postfix_on k low scope) (IsPostfix scope start)
+      climb_found goes_postfix (λ e. nat_le (height e) k) (postfix_on k low scope) (IsPostfix scope start)
       (λ left a tokens mid goes fits h before. postfix_by_sound scope start tokens mid left a before (leb-true (height left) k fits) (seen tokens) refl h)
       k left e tokens rest before h

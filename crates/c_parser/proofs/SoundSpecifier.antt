@@ -14,7 +14,9 @@ use Rattle.c_parser.specs.Height.{specifiers_height}
 use Rattle.c_parser.specs.Operators.{storage_word, qualifier_word, basic_word}
 use Rattle.c_parser.specs.Reader.{Reader, Found, seen, place, tail, many}
 use Rattle.c_parser.specs.ReadExpr.{Readers}
-use Rattle.c_parser.specs.ReadSpecifier.{Come, Nothing, Basic, Other, Specified, is_nothing, is_other, goes_specifier, come_with, specified_with, comes, word_by, word_at, specifier_by, low_specifier_by, low_specifier, specifier_at, with_type, specifiers_by, readers}
+use Rattle.c_parser.specs.declared.read.specifier.Come.{Come}
+use Rattle.c_parser.specs.declared.read.specifier.Come.TheVariants.{Nothing, Basic, Other}
+use Rattle.c_parser.specs.ReadSpecifier.{Specified, is_nothing, is_other, goes_specifier, come_with, specified_with, comes, word_by, word_at, specifier_by, low_specifier_by, low_specifier, specifier_at, with_type, specifiers_by, readers}
 use Rattle.c_parser.specs.ReadToken.{is_word, storage_of, qualifier_of, basic_of}
 use Rattle.c_parser.specs.Scopes.{Scope, is_type}
 use Rattle.c_parser.specs.Spelling.{spell_specifiers}

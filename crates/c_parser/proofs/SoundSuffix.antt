@@ -6,8 +6,8 @@ use Rattle.c_lexer.specs.declared.punct.Punct.TheVariants as p
 use Rattle.c_lexer.specs.declared.token.Token.{Token}
 use Rattle.c_lexer.specs.declared.token.Body.{Body}
 use Rattle.c_lexer.specs.declared.token.Body.TheVariants as body
-use Rattle.c_parser.specs.Form.{Form}
-use Rattle.c_parser.specs.Form as form
+use Rattle.c_parser.specs.declared.form.Form.{Form}
+use Rattle.c_parser.specs.declared.form.Form.TheVariants as form
 use Rattle.c_parser.specs.Height.{maybe_height, declarator_height, parameters_height}
 use Rattle.c_parser.specs.Levels.{conditional}
 use Rattle.c_parser.specs.Reader.{Found, seen, tail, give, skip, exactly, ◌>>=◌}
@@ -169,6 +169,6 @@ module _ (k : ℕ) (low : Readers) (sound : AllSound k low) where
       → IsSuffixed shape scope start one rest
   unfolding suffixes suffix_on
   suffixes_sound shape scope start tokens rest left one before h =
-      climb_found (goes_suffix k low) (λ d. nat_le (declarator_height d) k) (suffix_on k low scope) (IsSuffixed shape scope start)
+      climb_found goes_suffix (λ d. nat_le (declarator_height d) k) (suffix_on k low scope) (IsSuffixed shape scope start)
       (λ left a here mid goes fits h before. suffix_by_sound shape scope start here mid left a before (leb-true (declarator_height left) k fits) (seen here) refl h)
       k left one tokens rest before h

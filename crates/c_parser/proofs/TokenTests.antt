@@ -105,7 +105,7 @@ word_again w.Alignof = refl
 word_again w.Bool = refl
 word_again w.StaticAssert = refl
 
-one_word : (one other : Word) → word_text one ≡ word_text other → one ≡ other
+pub one_word : (one other : Word) → word_text one ≡ word_text other → one ≡ other
 one_word one other same = cc (word_again one, word_again other, ap (lookup words) same)
 
 pub is_word_is : (word : Word) (o : Option Body) → is_word word o ≡ true → o ≡ Some (body.Word word)

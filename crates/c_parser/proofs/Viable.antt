@@ -4,7 +4,7 @@ use Rattle.std.proofs.Common.{◌≡◌, ℕ, ◌<◌, ◌≤◌, List, [], ◌�
 use Rattle.c_lexer.specs.declared.punct.Punct.TheVariants as p
 use Rattle.c_lexer.specs.declared.token.Token.{Token}
 use Rattle.c_lexer.specs.declared.token.Body.TheVariants as body
-use Rattle.c_parser.specs.Form.{Form}
+use Rattle.c_parser.specs.declared.form.Form.{Form}
 use Rattle.c_parser.specs.Begin.{Begins, BeginsExpr, BeginsTypeName, BeginsSpecifiers, BeginsParameter, BeginsMember}
 use Rattle.c_parser.specs.Height.{declarator_height}
 use Rattle.c_parser.specs.Levels.{unary, postfix}

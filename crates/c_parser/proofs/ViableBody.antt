@@ -5,7 +5,7 @@ use Rattle.std.specs.List.{flat_map}
 use Rattle.c_lexer.specs.declared.punct.Punct.TheVariants as p
 use Rattle.c_lexer.specs.declared.token.Token.{Token}
 use Rattle.c_lexer.specs.declared.word.Word.TheVariants as w
-use Rattle.c_parser.specs.Form as form
+use Rattle.c_parser.specs.declared.form.Form.TheVariants as form
 use Rattle.c_parser.specs.declared.spelled.Spelled.{Spelled}
 use Rattle.c_parser.specs.Begin.{Begins, BeginsExternal, BeginsTree}
 use Rattle.c_parser.specs.Height.{specifiers_height, declarator_height}

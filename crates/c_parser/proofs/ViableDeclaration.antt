@@ -5,7 +5,7 @@ use Rattle.c_lexer.specs.declared.token.Body.{Body}
 use Rattle.c_lexer.specs.declared.token.Body.TheVariants as body
 use Rattle.c_lexer.specs.declared.token.Token.{Token}
 use Rattle.critical_table.specs.declared.pos.Pos.{Pos}
-use Rattle.c_parser.specs.Form as form
+use Rattle.c_parser.specs.declared.form.Form.TheVariants as form
 use Rattle.c_parser.specs.Begin.{Begins, BeginsDeclaration}
 use Rattle.c_parser.specs.Height.{declarator_height, specifiers_height}
 use Rattle.c_parser.specs.HeightUnit.{initializer_height, init_declarators_height, declaration_height}

@@ -81,10 +81,10 @@ module _ (k : ℕ) (low : Readers) (sound : AllSound k low) (viable : AllViable 
     by_next : (Q : Type 0)
         → ((operator : Infix) → seen tokens ≡ Some (body.Mark (infix_token operator)) → infix_of (seen tokens) ≡ Some operator → Between level (infix_level operator) (left_level operator) left scope → Q)
         → (seen tokens ≡ Some (body.Mark p.Question) → infix_of (seen tokens) ≡ None → Between level conditional logical_or left scope → Q)
-        → goes_infix k low level left (seen tokens) ≡ true → Q
+        → goes_infix level left (seen tokens) ≡ true → Q
     by_next Q between cond goes = by (infix_of (seen tokens)) refl goes
       where
-        by : (m : Option Infix) → infix_of (seen tokens) ≡ m → goes_between k low level left m (is_mark p.Question (seen tokens)) ≡ true → Q
+        by : (m : Option Infix) → infix_of (seen tokens) ≡ m → goes_between level left m (is_mark p.Question (seen tokens)) ≡ true → Q
         by (Some operator) m goes =
             let both = and_parts (nat_le level (infix_level operator)) (nat_le (left_level operator) (own_level left)) goes in
             between operator (token_is (λ operator. body.Mark (infix_token operator)) _ _ operator (infix_is (seen tokens)) m) m
@@ -128,7 +128,7 @@ module _ (k : ℕ) (low : Readers) (sound : AllSound k low) (viable : AllViable 
                 (given_stopped (low.expr (inner ++ expr_adds x.value) conditional mid) (λ else. Cond (place tokens) left x.value else) why rest h))))
           ]
 
-      infix_viable : goes_infix k low level left (seen tokens) ≡ true → infix_by k low scope left (place tokens) (infix_of (seen tokens)) tokens ≡ Stopped why rest → Stops why rest
+      infix_viable : goes_infix level left (seen tokens) ≡ true → infix_by k low scope left (place tokens) (infix_of (seen tokens)) tokens ≡ Stopped why rest → Stops why rest
       infix_viable goes h =
           by_next (Stops why rest)
           (λ operator is m may. between_viable operator is may (subst (λ m. infix_by k low scope left (place tokens) m tokens ≡ Stopped why rest) m h))
@@ -136,7 +136,7 @@ module _ (k : ℕ) (low : Readers) (sound : AllSound k low) (viable : AllViable 
           goes
 
     -- behind a tree of the full height
-    high_viable : goes_infix k low level left (seen tokens) ≡ true → Stops TooDeep tokens
+    high_viable : goes_infix level left (seen tokens) ≡ true → Stops TooDeep tokens
     high_viable goes =
         by_next (Stops TooDeep tokens)
         (λ operator is m may.
@@ -164,7 +164,7 @@ module _ (k : ℕ) (low : Readers) (sound : AllSound k low) (viable : AllViable 
   expr_viable scope level tokens rest why low_level h =
       elim (bind_stopped (unary_at k low scope level tokens) (infixes k low scope level) why rest h) [
         | inl x ↦ unary_viable k low sound viable scope level low_level tokens rest why x
-        | inr x ↦ climb_stopped (goes_infix k low level) (λ e. nat_le (height e) k) (infix_on k low scope) (IsRead scope level tokens) (Holds (BeginsExpr scope level) (suc k) tokens)
+        | inr x ↦ climb_stopped (goes_infix level) (λ e. nat_le (height e) k) (infix_on k low scope) (IsRead scope level tokens) (Holds (BeginsExpr scope level) (suc k) tokens)
             (λ left a here mid goes fits h before. infix_by_sound k low sound scope level low_level tokens here mid left a before (leb-true (height left) k fits) (infix_of (seen here)) refl goes h)
             (λ left here rest why goes fits h before. infix_viable scope level tokens here left before (leb-true (height left) k fits) rest why goes h)
             (λ left here goes before. high_viable scope level tokens here left before goes)

@@ -184,7 +184,7 @@ module _ (k : ℕ) (low : Readers) (sound : AllSound k low) (viable : AllViable 
           (arguments_viable k low sound viable some (scope ++ expr_adds left) (seen (tail tokens)) (tail tokens) rest why
           (given_stopped (arguments k low (scope ++ expr_adds left) (tail tokens)) (λ all. Call (place tokens) left all) why rest h))
 
-      access_viable : (operator : Access) → seen tokens ≡ Some (body.Mark (access_token operator)) → access_name k low operator left tokens ≡ Stopped why rest → Stops why rest
+      access_viable : (operator : Access) → seen tokens ≡ Some (body.Mark (access_token operator)) → access_name operator left tokens ≡ Stopped why rest → Stops why rest
       unfolding access_name
       access_viable operator is h = by (name_of (seen (tail tokens))) h
         where
@@ -199,11 +199,11 @@ module _ (k : ℕ) (low : Readers) (sound : AllSound k low) (viable : AllViable 
                 parts = sym (append_assoc (spell left) (mark_at (place tokens) (access_token operator) ∷ []) (name [] ∷ []));
               }))
 
-      step_viable : (operator : Postfix) → step_by_one k low operator left tokens ≡ Stopped why rest → Stops why rest
+      step_viable : (operator : Postfix) → step_by_one operator left tokens ≡ Stopped why rest → Stops why rest
       unfolding step_by_one
       step_viable operator h = absurd (cc (h))
 
-      postfix_by_viable : (o : Option Body) → seen tokens ≡ o → goes_postfix k low left o ≡ true → postfix_by k low scope left o tokens ≡ Stopped why rest → Stops why rest
+      postfix_by_viable : (o : Option Body) → seen tokens ≡ o → goes_postfix left o ≡ true → postfix_by k low scope left o tokens ≡ Stopped why rest → Stops why rest
       postfix_by_viable (Some (body.Mark p.OpenBracket)) is goes h = index_viable is h
       postfix_by_viable (Some (body.Mark p.OpenParen)) is goes h = call_viable is h
       postfix_by_viable (Some (body.Mark p.Dot)) is goes h = access_viable access.Dot is h
@@ -217,7 +217,7 @@ module _ (k : ℕ) (low : Readers) (sound : AllSound k low) (viable : AllViable 
     high_by e m more is fits parts =
         too_deep {high = height e} (spelt before) (spelt_at tokens (body.Mark m) is) (read_completed before) (record { node = e; more = more; fits = fits; within = omega arith; parts = parts })
 
-    high_viable : (o : Option Body) → seen tokens ≡ o → goes_postfix k low left o ≡ true → Stops TooDeep tokens
+    high_viable : (o : Option Body) → seen tokens ≡ o → goes_postfix left o ≡ true → Stops TooDeep tokens
     high_viable (Some (body.Mark p.OpenBracket)) is goes =
         high_by (Index (place tokens) left any_constant) p.OpenBracket (spell any_constant ++ mark p.CloseBracket ∷ []) is (omega arith, before.fits, tt) (simp append_assoc refl)
     high_viable (Some (body.Mark p.OpenParen)) is goes =
@@ -236,7 +236,7 @@ module _ (k : ℕ) (low : Readers) (sound : AllSound k low) (viable : AllViable 
       → Holds (BeginsExpr scope postfix) (suc k) start why rest
   unfolding postfixes postfix_on
   postfixes_viable scope start tokens rest left why before h =
-      climb_stopped (goes_postfix k low) (λ e. nat_le (height e) k) (postfix_on k low scope) (IsPostfix k low sound scope start) (Holds (BeginsExpr scope postfix) (suc k) start)
+      climb_stopped goes_postfix (λ e. nat_le (height e) k) (postfix_on k low scope) (IsPostfix k low sound scope start) (Holds (BeginsExpr scope postfix) (suc k) start)
       (λ left a tokens mid goes fits h before. postfix_by_sound k low sound scope start tokens mid left a before (leb-true (height left) k fits) (seen tokens) refl h)
       (λ left tokens rest why goes fits h before. postfix_by_viable scope start tokens left before (leb-true (height left) k fits) rest why (seen tokens) refl goes h)
       (λ left tokens goes before. high_viable scope start tokens left before (seen tokens) refl goes)

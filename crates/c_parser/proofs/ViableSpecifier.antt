@@ -13,7 +13,9 @@ use Rattle.c_parser.specs.Begin.{Begins, BeginsSpecifiers}
 use Rattle.c_parser.specs.Height.{specifier_height, specifiers_height}
 use Rattle.c_parser.specs.Reader.{Why, Unfit, TooDeep, Got, Reader, Stopped, Found, seen, place, many}
 use Rattle.c_parser.specs.ReadExpr.{Readers}
-use Rattle.c_parser.specs.ReadSpecifier.{Come, Nothing, Basic, Other, Specified, is_nothing, is_other, goes_specifier, come_with, specified_with, comes, word_by, word_at, specifier_by, low_specifier_by, low_specifier, specifier_at, with_type, specifiers_by}
+use Rattle.c_parser.specs.declared.read.specifier.Come.{Come}
+use Rattle.c_parser.specs.declared.read.specifier.Come.TheVariants.{Nothing, Basic, Other}
+use Rattle.c_parser.specs.ReadSpecifier.{Specified, is_nothing, is_other, goes_specifier, come_with, specified_with, comes, word_by, word_at, specifier_by, low_specifier_by, low_specifier, specifier_at, with_type, specifiers_by}
 use Rattle.c_parser.specs.ReadToken.{is_word, storage_of, qualifier_of, basic_of}
 use Rattle.c_parser.specs.Scopes.{Scope, specifier_adds}
 use Rattle.c_parser.specs.Spelling.{spell_specifier, spell_specifiers}

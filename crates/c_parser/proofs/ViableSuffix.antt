@@ -6,7 +6,7 @@ use Rattle.c_lexer.specs.declared.punct.Punct.TheVariants as p
 use Rattle.c_lexer.specs.declared.token.Token.{Token}
 use Rattle.c_lexer.specs.declared.token.Body.{Body}
 use Rattle.c_lexer.specs.declared.token.Body.TheVariants as body
-use Rattle.c_parser.specs.Form.{Form}
+use Rattle.c_parser.specs.declared.form.Form.{Form}
 use Rattle.c_parser.specs.declared.spelled.Spelled.{Spelled}
 use Rattle.c_parser.specs.Begin.{Begins}
 use Rattle.c_parser.specs.Height.{height, declarator_height, parameter_height, parameters_height}
@@ -155,7 +155,7 @@ module _ (k : ℕ) (low : Readers) (sound : AllSound k low) (viable : AllViable 
     unfolding array_on
     array_viable is h = length_by_viable (seen (tail tokens)) is h
 
-    suffix_by_viable : (o : Option Body) → HasToken left → seen tokens ≡ o → goes_suffix k low left o ≡ true → suffix_by k low scope left o tokens ≡ Stopped why rest → Holds (BeginsForm shape scope) (suc k) start why rest
+    suffix_by_viable : (o : Option Body) → HasToken left → seen tokens ≡ o → goes_suffix left o ≡ true → suffix_by k low scope left o tokens ≡ Stopped why rest → Holds (BeginsForm shape scope) (suc k) start why rest
     suffix_by_viable (Some (body.Mark p.OpenBracket)) has is goes h = array_viable is h
     suffix_by_viable (Some (body.Mark p.OpenParen)) has is goes h = function_viable (omega (arith, declarator_high left has, low_left)) is h
     suffix_by_viable _ has is goes h = absurd (cc (goes))
@@ -182,7 +182,7 @@ module _ (k : ℕ) (low : Readers) (sound : AllSound k low) (viable : AllViable 
         → Completed (λ one. IsDeclarator one scope × HasForm shape scope one) declarator_height spell_declarator (suc k) (spell_declarator left)
     complete left tokens before = record { node = left; more = []; fits = (before.fits.1, before.fits.2); within = before.within; parts = sym (append-nil (spell_declarator left)) }
 
-    suffix_deep : (left : Declarator) (tokens : List Token) (o : Option Body) → IsSuffixed k low sound shape scope start left tokens → seen tokens ≡ o → goes_suffix k low left o ≡ true → Holds (BeginsForm shape scope) (suc k) start TooDeep tokens
+    suffix_deep : (left : Declarator) (tokens : List Token) (o : Option Body) → IsSuffixed k low sound shape scope start left tokens → seen tokens ≡ o → goes_suffix left o ≡ true → Holds (BeginsForm shape scope) (suc k) start TooDeep tokens
     suffix_deep left tokens (Some (body.Mark p.OpenBracket)) before is goes =
         too_deep {high = suc (declarator_height left)} (spelt before) (spelt_bare tokens (body.Mark p.OpenBracket) is) (complete left tokens before) (record {
           node = ArrayOf left Without;
@@ -205,7 +205,7 @@ module _ (k : ℕ) (low : Readers) (sound : AllSound k low) (viable : AllViable 
         → Holds (BeginsForm shape scope) (suc k) start why rest
     unfolding suffixes suffix_on
     suffixes_viable tokens rest why left before has h =
-        climb_stopped (goes_suffix k low) (λ d. nat_le (declarator_height d) k) (suffix_on k low scope) (λ left tokens. IsSuffixed k low sound shape scope start left tokens × HasToken left) (Holds (BeginsForm shape scope) (suc k) start)
+        climb_stopped goes_suffix (λ d. nat_le (declarator_height d) k) (suffix_on k low scope) (λ left tokens. IsSuffixed k low sound shape scope start left tokens × HasToken left) (Holds (BeginsForm shape scope) (suc k) start)
         (λ left a here mid goes fits h is.
         (suffix_by_sound k low sound shape scope start here mid left a is.0 (leb-true (declarator_height left) k fits) (seen here) refl h, suffix_token scope left a (seen here) here mid h))
         (λ left here rest why goes fits h is. suffix_by_viable shape scope start here rest why left is.0 (leb-true (declarator_height left) k fits) (seen here) is.1 refl goes h)

@@ -6,6 +6,7 @@ pub mod Tokens
 pub mod Operators
 pub mod Spelling
 pub mod SpellingUnit
+pub mod Known
 pub mod Levels
 pub mod Height
 pub mod HeightUnit
@@ -22,4 +23,4 @@ pub mod ReadExpr
 pub mod ReadDeclarator
 pub mod ReadSpecifier
 pub mod ReadBody
-pub mod Form
+pub mod Agree

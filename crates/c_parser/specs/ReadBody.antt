@@ -5,7 +5,7 @@ use Rattle.c_lexer.specs.declared.punct.Punct.TheVariants as p
 use Rattle.c_lexer.specs.declared.token.Body.{Body}
 use Rattle.c_lexer.specs.declared.token.Body.TheVariants as body
 use Rattle.c_lexer.specs.declared.word.Word.TheVariants as w
-use Rattle.c_parser.specs.Form as form
+use Rattle.c_parser.specs.declared.form.Form.TheVariants as form
 use Rattle.c_parser.specs.Levels.{expression, assignment, conditional}
 use Rattle.c_parser.specs.Reader.{Reader, Unfit, TooDeep, ◌>>=◌, give, stop, look, here, skip, choose, deeper, exactly, many, listed, more_listed, ones}
 use Rattle.c_parser.specs.ReadToken.{is_mark, is_word, name_of, begins_type}
@@ -54,13 +54,15 @@ module _ (k : ℕ) (low : Initializers) where
       choose (is_mark p.OpenBrace o) (choose (nat_le 2 k) (skip (braces scope pos)) (stop TooDeep))
       ((readers (suc k)).expr scope assignment >>= λ e. give (Single e))))
 
+  abbrev pub member_named : Scope → Pos → Option (List ℕ) → Reader Item
+  member_named scope pos None = stop Unfit
+  member_named scope pos (Some x) = skip (exactly (is_mark p.Assign) >>= λ _. low.initializer scope >>= λ value. give (ForMember pos x value))
+
+  -- behind the dot
   unfoldable pub member_item : Scope → Pos → Reader Item
   member_item scope pos = look (λ o. member_named scope pos (name_of o))
-    where
-      member_named : Scope → Pos → Option (List ℕ) → Reader Item
-      member_named scope pos None = stop Unfit
-      member_named scope pos (Some x) = skip (exactly (is_mark p.Assign) >>= λ _. low.initializer scope >>= λ value. give (ForMember pos x value))
 
+  -- behind the bracket
   unfoldable pub index_item : Scope → Pos → Reader Item
   index_item scope pos =
       (readers k).expr scope conditional >>= λ index. exactly (is_mark p.CloseBracket) >>= λ _. exactly (is_mark p.Assign) >>= λ _.
@@ -90,9 +92,12 @@ module _ (k : ℕ) where
   init_by scope one true = skip ((initializers k).initializer scope >>= λ value. give (record { declarator = one; initializer = Some value }))
   init_by scope one false = give (record { declarator = one; initializer = None })
 
+  -- in the scope behind the declarator, which its name is not yet in
+  abbrev pub init_in : Bool → Scope → Declarator → Reader InitDeclarator
+  init_in names_type scope one = look (λ o. init_by (scope ++ declared_if names_type (own_name one)) one (is_mark p.Assign o))
+
   unfoldable pub init_on : Bool → Scope → Declarator → Reader InitDeclarator
-  init_on names_type scope one =
-      look (λ o. init_by (scope ++ declarator_adds one ++ declared_if names_type (own_name one)) one (is_mark p.Assign o))
+  init_on names_type scope one = init_in names_type (scope ++ declarator_adds one) one
 
   unfoldable pub init_declarator : Bool → Scope → Reader InitDeclarator
   init_declarator names_type scope = (readers k).declarator form.Named scope >>= init_on names_type scope
@@ -104,11 +109,20 @@ module _ (k : ℕ) where
   unfoldable pub more_declarators : Bool → Scope → Reader (List (Option InitDeclarator))
   more_declarators names_type = more_listed (is_mark p.Comma) (λ o. false) (give tt) (init_declarator names_type) (λ s one. s ++ init_declarator_adds names_type one)
 
+  -- and the first one before them
+  abbrev pub all_declarators : Bool → Scope → InitDeclarator → Reader (List InitDeclarator)
+  all_declarators names_type scope first = more_declarators names_type scope >>= λ rest. give (first ∷ ones rest)
+
+  -- behind the first declarator and its initializer, in the scope behind them
+  abbrev pub declared_in : Scope → Specifiers → InitDeclarator → Reader Declaration
+  declared_in scope all first =
+      more_declarators (names_types all) scope >>= λ rest.
+      exactly (is_mark p.Semicolon) >>= λ _. give (record { specifiers = all; declarators = first ∷ ones rest })
+
   -- behind the first declarator
   unfoldable pub declared_on : Scope → Specifiers → Declarator → Reader Declaration
   declared_on scope all one =
-      init_on (names_types all) scope one >>= λ first. more_declarators (names_types all) (scope ++ init_declarator_adds (names_types all) first) >>= λ rest.
-      exactly (is_mark p.Semicolon) >>= λ _. give (record { specifiers = all; declarators = first ∷ ones rest })
+      init_on (names_types all) scope one >>= λ first. declared_in (scope ++ init_declarator_adds (names_types all) first) all first
 
   abbrev pub declaration_by : Scope → Specifiers → Bool → Reader Declaration
   declaration_by scope all true = skip (give (record { specifiers = all; declarators = [] }))
@@ -176,12 +190,23 @@ pub record Statements : Type 0 where
   pub block_item : Scope → Reader BlockItem
   pub switch_item : Scope → Reader SwitchItem
 
+-- the items of a block, up to the token that ends it
+abbrev pub block_run : (Scope → Reader BlockItem) → Scope → Reader (List BlockItem)
+block_run item = many goes_item item (λ s one. s ++ block_item_adds one)
+
+abbrev pub switch_run : (Scope → Reader SwitchItem) → Scope → Reader (List SwitchItem)
+switch_run item = many goes_item item (λ s one. s ++ switch_item_adds one)
+
 -- behind an opening brace
 unfoldable pub block_with : (Scope → Reader BlockItem) → Scope → Reader BlockItems
-block_with item scope = many goes_item item (λ s one. s ++ block_item_adds one) scope >>= λ all. exactly (is_mark p.CloseBrace) >>= λ _. give (block_items all)
+block_with item scope = block_run item scope >>= λ all. exactly (is_mark p.CloseBrace) >>= λ _. give (block_items all)
 
 unfoldable pub switch_with : (Scope → Reader SwitchItem) → Scope → Reader SwitchItems
-switch_with item scope = many goes_item item (λ s one. s ++ switch_item_adds one) scope >>= λ all. exactly (is_mark p.CloseBrace) >>= λ _. give (switch_items all)
+switch_with item scope = switch_run item scope >>= λ all. exactly (is_mark p.CloseBrace) >>= λ _. give (switch_items all)
+
+-- behind the word of a statement that has nothing but a mark behind it
+abbrev pub jump_on : Statement → Reader Statement
+jump_on jump = exactly (is_mark p.Semicolon) >>= λ _. give jump
 
 module _ (k : ℕ) (low : Statements) where
   unfoldable pub an_expr : Scope → Reader Expr
@@ -218,23 +243,35 @@ module _ (k : ℕ) (low : Statements) where
   unfoldable pub for_init : Scope → Reader ForInit
   for_init scope = look (λ o. for_init_by scope (begins_type scope o))
 
+  -- behind how a `for` begins
+  abbrev pub for_begun : Scope → Pos → ForInit → Reader Statement
+  for_begun scope pos init =
+      optional (is_mark p.Semicolon) scope >>= λ test. optional (is_mark p.CloseParen) (scope ++ optional_adds test) >>= λ step.
+      low.statement (scope ++ optional_adds test ++ optional_adds step) >>= λ turn. give (For pos init test step turn)
+
   unfoldable pub for_on : Scope → Pos → Reader Statement
-  for_on scope pos =
-      exactly (is_mark p.OpenParen) >>= λ _. for_init scope >>= λ init. optional (is_mark p.Semicolon) (scope ++ for_init_adds init) >>= λ test.
-      optional (is_mark p.CloseParen) (scope ++ for_init_adds init ++ optional_adds test) >>= λ step.
-      low.statement (scope ++ for_init_adds init ++ optional_adds test ++ optional_adds step) >>= λ turn. give (For pos init test step turn)
+  for_on scope pos = exactly (is_mark p.OpenParen) >>= λ _. for_init scope >>= λ init. for_begun (scope ++ for_init_adds init) pos init
+
+  abbrev pub compound : Scope → Reader Statement
+  compound scope = block_with low.block_item scope >>= λ all. give (Block all)
+
+  abbrev pub return_on : Scope → Pos → Reader Statement
+  return_on scope pos = optional (is_mark p.Semicolon) scope >>= λ value. give (Return pos value)
+
+  abbrev pub evaluated : Scope → Reader Statement
+  evaluated scope = optional (is_mark p.Semicolon) scope >>= λ e. give (ExprStmt e)
 
   abbrev pub statement_by : Scope → Pos → Option Body → Reader Statement
-  statement_by scope pos (Some (body.Mark p.OpenBrace)) = skip (block_with low.block_item scope >>= λ all. give (Block all))
+  statement_by scope pos (Some (body.Mark p.OpenBrace)) = skip (compound scope)
   statement_by scope pos (Some (body.Word w.If)) = deeper k (skip (if_on scope pos))
   statement_by scope pos (Some (body.Word w.Switch)) = deeper k (skip (switch_on scope pos))
   statement_by scope pos (Some (body.Word w.While)) = deeper k (skip (while_on scope pos))
   statement_by scope pos (Some (body.Word w.Do)) = deeper k (skip (do_on scope pos))
   statement_by scope pos (Some (body.Word w.For)) = deeper k (skip (for_on scope pos))
-  statement_by scope pos (Some (body.Word w.Break)) = skip (exactly (is_mark p.Semicolon) >>= λ _. give (Break pos))
-  statement_by scope pos (Some (body.Word w.Continue)) = skip (exactly (is_mark p.Semicolon) >>= λ _. give (Continue pos))
-  statement_by scope pos (Some (body.Word w.Return)) = skip (optional (is_mark p.Semicolon) scope >>= λ value. give (Return pos value))
-  statement_by scope pos _ = optional (is_mark p.Semicolon) scope >>= λ e. give (ExprStmt e)
+  statement_by scope pos (Some (body.Word w.Break)) = skip (jump_on (Break pos))
+  statement_by scope pos (Some (body.Word w.Continue)) = skip (jump_on (Continue pos))
+  statement_by scope pos (Some (body.Word w.Return)) = skip (return_on scope pos)
+  statement_by scope pos _ = evaluated scope
 
   unfoldable pub statement_at : Scope → Reader Statement
   statement_at scope = here (λ pos. look (statement_by scope pos))
@@ -280,9 +317,13 @@ module _ (k : ℕ) where
   abbrev pub function_scope : Scope → Specifiers → Declarator → Scope
   function_scope scope all one = body_scope scope (record { specifiers = all; declarator = one; body = block_items [] })
 
+  -- a function behind the opening brace of its body, in the scope of the body
+  abbrev pub function_in : Scope → Specifiers → Declarator → Reader External
+  function_in scope all one =
+      block_lower k scope >>= λ items. give (Defines (record { specifiers = all; declarator = one; body = items }))
+
   abbrev pub external_declared : Scope → Specifiers → Declarator → Bool → Reader External
-  external_declared scope all one true =
-      skip (block_lower k (function_scope scope all one) >>= λ items. give (Defines (record { specifiers = all; declarator = one; body = items })))
+  external_declared scope all one true = skip (function_in (function_scope scope all one) all one)
   external_declared scope all one false = declared_on k (scope ++ specifiers_add all) all one >>= λ found. give (Declaring found)
 
   unfoldable pub external_on : Scope → Specifiers → Declarator → Reader External

@@ -4,8 +4,8 @@ use Rattle.critical_table.specs.declared.pos.Pos.{Pos}
 use Rattle.c_lexer.specs.declared.punct.Punct.TheVariants as p
 use Rattle.c_lexer.specs.declared.token.Body.{Body}
 use Rattle.c_lexer.specs.declared.token.Body.TheVariants as body
-use Rattle.c_parser.specs.Form.{Form}
-use Rattle.c_parser.specs.Form as form
+use Rattle.c_parser.specs.declared.form.Form.{Form}
+use Rattle.c_parser.specs.declared.form.Form.TheVariants as form
 use Rattle.c_parser.specs.declared.specifier.Qualifier.{Qualifier}
 use Rattle.c_parser.specs.Height.{declarator_height}
 use Rattle.c_parser.specs.Levels.{conditional}
@@ -47,6 +47,11 @@ qualifier = look (λ o. qualifier_by (qualifier_of o))
 unfoldable pub qualifiers : Scope → Reader (List Qualifier)
 qualifiers = many (λ s o. is_some (qualifier_of o)) (λ s. qualifier) (λ s word. s)
 
+abbrev pub goes_suffix : Declarator → Option Body → Bool
+goes_suffix left (Some (body.Mark p.OpenBracket)) = true
+goes_suffix left (Some (body.Mark p.OpenParen)) = true
+goes_suffix left _ = false
+
 module _ (k : ℕ) (low : Readers) where
   -- ---- parameters (6.7.6.3)
 
@@ -63,22 +68,28 @@ module _ (k : ℕ) (low : Readers) where
 
   -- ---- what follows the identifier (6.7.6.2, 6.7.6.3)
 
-  abbrev pub goes_suffix : Declarator → Option Body → Bool
-  goes_suffix left (Some (body.Mark p.OpenBracket)) = true
-  goes_suffix left (Some (body.Mark p.OpenParen)) = true
-  goes_suffix left _ = false
-
-  abbrev pub length_by : Scope → Declarator → Option Body → Reader Declarator
-  length_by scope left (Some (body.Mark p.CloseBracket)) = skip (give (ArrayOf left Without))
-  length_by scope left _ =
-      wanted (scope ++ declarator_adds left) k (low.expr (scope ++ declarator_adds left) conditional) >>= λ length.
+  -- in the scope behind the declarator of the array's elements
+  abbrev pub length_in : Scope → Declarator → Option Body → Reader Declarator
+  length_in scope left (Some (body.Mark p.CloseBracket)) = skip (give (ArrayOf left Without))
+  length_in scope left _ =
+      wanted scope k (low.expr scope conditional) >>= λ length.
       exactly (is_mark p.CloseBracket) >>= λ _. give (ArrayOf left (With length))
 
+  abbrev pub length_by : Scope → Declarator → Option Body → Reader Declarator
+  length_by scope left = length_in (scope ++ declarator_adds left) left
+
+  abbrev pub array_in : Scope → Declarator → Reader Declarator
+  array_in scope left = look (length_in scope left)
+
   unfoldable pub array_on : Scope → Declarator → Reader Declarator
-  array_on scope left = look (length_by scope left)
+  array_on scope left = array_in (scope ++ declarator_adds left) left
+
+  -- in the scope behind the function's own declarator
+  abbrev pub function_in : Scope → Declarator → Reader Declarator
+  function_in scope left = parameters_at scope >>= λ all. give (FunctionOf left all.0 all.1)
 
   unfoldable pub function_on : Scope → Declarator → Reader Declarator
-  function_on scope left = parameters_at (scope ++ declarator_adds left) >>= λ all. give (FunctionOf left all.0 all.1)
+  function_on scope left = function_in (scope ++ declarator_adds left) left
 
   abbrev pub suffix_by : Scope → Declarator → Option Body → Reader Declarator
   suffix_by scope left (Some (body.Mark p.OpenBracket)) = skip (array_on scope left)
@@ -129,11 +140,14 @@ module _ (k : ℕ) (low : Readers) where
   name_by form.Abstract scope pos x = give Omitted
   name_by form.Parameter scope pos x = skip (suffixes scope (Name pos x))
 
+  abbrev pub unnamed_array : Scope → Reader Declarator
+  unnamed_array scope = suffix_on scope Omitted >>= suffixes scope
+
   -- an array of an omitted identifier has height 1 at least
   abbrev pub bracket_by : Form → Scope → Reader Declarator
   bracket_by form.Named scope = stop Unfit
-  bracket_by form.Abstract scope = suffix_on scope Omitted >>= suffixes scope
-  bracket_by form.Parameter scope = suffix_on scope Omitted >>= suffixes scope
+  bracket_by form.Abstract scope = unnamed_array scope
+  bracket_by form.Parameter scope = unnamed_array scope
 
   abbrev pub declarator_by : Form → Scope → Pos → Option Body → Reader Declarator
   declarator_by shape scope pos (Some (body.Mark p.Star)) = room shape (skip (pointer shape scope))
@@ -159,10 +173,14 @@ module _ (k : ℕ) (low : Readers) where
   unfoldable pub listed_declarators : Scope → Reader (List Declarator × Bool)
   listed_declarators = listed (is_mark p.Comma) (λ o. false) (give tt) (low.declarator form.Named) (λ s one. s ++ declarator_adds one)
 
+  -- in the scope behind the specifiers
+  abbrev pub member_in : Scope → Specifiers → Reader MemberDeclaration
+  member_in scope all =
+      listed_declarators scope >>= λ found. exactly (is_mark p.Semicolon) >>= λ _. give (Declares all (declarators found.0))
+
   abbrev pub member_by : Scope → Specifiers → Option Body → Reader MemberDeclaration
   member_by scope all (Some (body.Mark p.Semicolon)) = skip (give (Declares all NoDeclarator))
-  member_by scope all _ =
-      listed_declarators (scope ++ specifiers_add all) >>= λ found. exactly (is_mark p.Semicolon) >>= λ _. give (Declares all (declarators found.0))
+  member_by scope all _ = member_in (scope ++ specifiers_add all) all
 
   unfoldable pub member_on : Scope → Specifiers → Reader MemberDeclaration
   member_on scope all = look (member_by scope all)

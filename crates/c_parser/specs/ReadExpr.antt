@@ -6,7 +6,7 @@ use Rattle.c_lexer.specs.declared.token.Body.{Body}
 use Rattle.c_lexer.specs.declared.token.Body.TheVariants as body
 use Rattle.c_lexer.specs.declared.word.Word.TheVariants as w
 use Rattle.c_parser.specs.declared.expression.Constant.TheVariants as constant
-use Rattle.c_parser.specs.Form.{Form}
+use Rattle.c_parser.specs.declared.form.Form.{Form}
 use Rattle.c_parser.specs.declared.operator.Access.{Access}
 use Rattle.c_parser.specs.declared.operator.Access.TheVariants as access
 use Rattle.c_parser.specs.declared.operator.Infix.{Infix}
@@ -80,17 +80,33 @@ piece = look piece_by
 unfoldable pub pieces : Bool → Reader (List (List ℤ))
 pieces wide = many (λ s o. is_literal wide o) (λ s. piece) (λ s units. s) wide
 
+abbrev pub goes_postfix : Expr → Option Body → Bool
+goes_postfix left (Some (body.Mark p.OpenBracket)) = true
+goes_postfix left (Some (body.Mark p.OpenParen)) = true
+goes_postfix left (Some (body.Mark p.Dot)) = true
+goes_postfix left (Some (body.Mark p.Arrow)) = true
+goes_postfix left (Some (body.Mark p.Increment)) = true
+goes_postfix left (Some (body.Mark p.Decrement)) = true
+goes_postfix left _ = false
+
+-- the operator may take this tree on its left, and stand where the level is wanted
+abbrev pub goes_between : ℕ → Expr → Option Infix → Bool → Bool
+goes_between level left (Some operator) question = nat_le level (infix_level operator) && nat_le (left_level operator) (own_level left)
+goes_between level left None question = question && nat_le level conditional && nat_le logical_or (own_level left)
+
+abbrev pub goes_infix : ℕ → Expr → Option Body → Bool
+goes_infix level left o = goes_between level left (infix_of o) (is_mark p.Question o)
+
+-- ---- postfix operators that take no expression
+
+unfoldable pub access_name : Access → Expr → Reader Expr
+access_name operator left = here (λ pos. skip (look (λ o. named (name_of o) (λ x. give (Member pos operator left x)))))
+
+unfoldable pub step_by_one : Postfix → Expr → Reader Expr
+step_by_one operator left = here (λ pos. skip (give (Postfix' pos operator left)))
+
 module _ (k : ℕ) (low : Readers) where
   -- ---- postfix operators (6.5.2)
-
-  abbrev pub goes_postfix : Expr → Option Body → Bool
-  goes_postfix left (Some (body.Mark p.OpenBracket)) = true
-  goes_postfix left (Some (body.Mark p.OpenParen)) = true
-  goes_postfix left (Some (body.Mark p.Dot)) = true
-  goes_postfix left (Some (body.Mark p.Arrow)) = true
-  goes_postfix left (Some (body.Mark p.Increment)) = true
-  goes_postfix left (Some (body.Mark p.Decrement)) = true
-  goes_postfix left _ = false
 
   -- arguments have no ending
   unfoldable pub listed_arguments : Scope → Reader (List Expr × Bool)
@@ -103,18 +119,20 @@ module _ (k : ℕ) (low : Readers) where
   unfoldable pub arguments : Scope → Reader Exprs
   arguments scope = look (arguments_by scope)
 
-  unfoldable pub index : Scope → Expr → Reader Expr
-  index scope left = here (λ pos. skip (low.expr (scope ++ expr_adds left) expression >>= λ inside.
+  -- in the scope behind the array
+  abbrev pub index_in : Scope → Expr → Reader Expr
+  index_in scope left = here (λ pos. skip (low.expr scope expression >>= λ inside.
       exactly (is_mark p.CloseBracket) >>= λ _. give (Index pos left inside)))
 
+  unfoldable pub index : Scope → Expr → Reader Expr
+  index scope left = index_in (scope ++ expr_adds left) left
+
+  -- in the scope behind the function
+  abbrev pub call_in : Scope → Expr → Reader Expr
+  call_in scope left = here (λ pos. skip (arguments scope >>= λ all. give (Call pos left all)))
+
   unfoldable pub call : Scope → Expr → Reader Expr
-  call scope left = here (λ pos. skip (arguments (scope ++ expr_adds left) >>= λ all. give (Call pos left all)))
-
-  unfoldable pub access_name : Access → Expr → Reader Expr
-  access_name operator left = here (λ pos. skip (look (λ o. named (name_of o) (λ x. give (Member pos operator left x)))))
-
-  unfoldable pub step_by_one : Postfix → Expr → Reader Expr
-  step_by_one operator left = here (λ pos. skip (give (Postfix' pos operator left)))
+  call scope left = call_in (scope ++ expr_adds left) left
 
   abbrev pub postfix_by : Scope → Expr → Option Body → Reader Expr
   postfix_by scope left (Some (body.Mark p.OpenBracket)) = index scope left
@@ -186,16 +204,12 @@ module _ (k : ℕ) (low : Readers) where
 
   -- ---- operators between operands, and the conditional (6.5.5 to 6.5.17)
 
-  -- the operator may take this tree on its left, and stand where the level is wanted
-  abbrev pub goes_between : ℕ → Expr → Option Infix → Bool → Bool
-  goes_between level left (Some operator) question = nat_le level (infix_level operator) && nat_le (left_level operator) (own_level left)
-  goes_between level left None question = question && nat_le level conditional && nat_le logical_or (own_level left)
-
-  abbrev pub goes_infix : ℕ → Expr → Option Body → Bool
-  goes_infix level left o = goes_between level left (infix_of o) (is_mark p.Question o)
+  -- in the scope behind the left operand
+  abbrev pub between_in : Scope → Expr → Pos → Infix → Reader Expr
+  between_in scope left pos operator = low.expr scope (right_level operator) >>= λ right. give (Infix' pos operator left right)
 
   unfoldable pub between_on : Scope → Expr → Pos → Infix → Reader Expr
-  between_on scope left pos operator = low.expr (scope ++ expr_adds left) (right_level operator) >>= λ right. give (Infix' pos operator left right)
+  between_on scope left pos operator = between_in (scope ++ expr_adds left) left pos operator
 
   unfoldable pub cond_on : Scope → Expr → Pos → Reader Expr
   cond_on scope left pos =

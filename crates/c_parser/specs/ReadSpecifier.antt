@@ -5,6 +5,8 @@ use Rattle.c_lexer.specs.declared.punct.Punct.TheVariants as p
 use Rattle.c_lexer.specs.declared.token.Body.{Body}
 use Rattle.c_lexer.specs.declared.token.Body.TheVariants as body
 use Rattle.c_lexer.specs.declared.word.Word.TheVariants as w
+use Rattle.c_parser.specs.declared.read.specifier.Come.{Come}
+use Rattle.c_parser.specs.declared.read.specifier.Come.TheVariants.{Nothing, Basic, Other}
 use Rattle.c_parser.specs.declared.specifier.BasicWord.{BasicWord}
 use Rattle.c_parser.specs.declared.specifier.CompoundWord.{CompoundWord}
 use Rattle.c_parser.specs.declared.specifier.CompoundWord.TheVariants as words
@@ -20,12 +22,7 @@ use Rattle.c_parser.specs.Scopes.{Scope, is_type, specifier_adds, member_adds, e
 use Rattle.c_parser.specs.Tree.{Specifier, Storage', Qualifier', Inline, BasicWord', CompoundTag, Compound, EnumTag, Enum, TypedefName, Specifiers, MemberDeclaration, Enumerator, Enumerates, Without, With}
 use Rattle.c_parser.specs.View.{specifiers, members, enumerators}
 
--- whether a type has come: none, basic words, or another that stands alone (6.7.2p2)
-pub data Come : Type 0 where
-  Nothing : Come
-  Basic : Come
-  Other : Come
-
+-- the scope, and whether a type has come (6.7.2p2)
 pub record Specified : Type 0 where
   pub scope : Scope
   pub come : Come
@@ -88,6 +85,10 @@ module _ (k : ℕ) (low : Readers) where
 
   unfoldable pub more_members : Scope → Reader (List MemberDeclaration)
   more_members = many begins_type low.member (λ s one. s ++ member_adds one)
+
+  -- one member at least
+  abbrev pub all_members : Scope → Reader (List MemberDeclaration)
+  all_members scope = low.member scope >>= λ first. more_members (scope ++ member_adds first) >>= λ rest. give (first ∷ rest)
 
   unfoldable pub compound_body : Scope → Pos → CompoundWord → Option Tag → Reader Specifier
   compound_body scope pos word tag =
@@ -208,3 +209,8 @@ higher k low = record {
 abbrev pub readers : ℕ → Readers
 readers zero = lowest
 readers (suc k) = higher k (readers k)
+
+-- one specifier of this height at most
+abbrev pub specifier_within : ℕ → Scope → Pos → Option Body → Reader Specifier
+specifier_within zero scope = low_specifier_by
+specifier_within (suc k) scope = specifier_by k (readers k) scope

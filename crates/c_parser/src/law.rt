@@ -8,6 +8,7 @@ ghost use Rattle.critical_table.specs.declared.pos.Pos.{Pos};
 ghost use Rattle.critical_table.specs.declared.refusal.Refusal.{Refusal};
 ghost use Rattle.c_lexer.specs.Stream.{Stream};
 ghost use Rattle.c_parser.specs.Parsing.{SpelledBy, RefusedAt};
+ghost use Rattle.c_parser.specs.declared.spelled.Spelled.{Spelled};
 ghost use Rattle.c_parser.specs.First.{IsFirst};
 ghost use Rattle.c_parser.specs.Tree.{Expr, TypeName, Specifiers, Declarator, Parameter, MemberDeclaration};
 ghost use Rattle.c_parser.specs.TreeUnit.{Initializer, Item, Declaration, Statement, BlockItem, SwitchItem, External, Tree};
@@ -68,4 +69,9 @@ pub fn one_tree_law()
     ensures expression { (scope : Scope) (a b : Expr) (tokens : List Token) → IsExpr a scope expression → IsExpr b scope expression → Match tokens (spell a) → Match tokens (spell b) → a ≡ b }
     ensures type_name { (scope : Scope) (a b : TypeName) (tokens : List Token) → IsTypeName a scope → IsTypeName b scope → Match tokens (spell_type_name a) → Match tokens (spell_type_name b) → a ≡ b }
     ensures unit { (a b : Tree) (tokens : List Token) → IsTree a → IsTree b → Match tokens (spell_tree a) → Match tokens (spell_tree b) → a.end ≡ b.end → a ≡ b }
+{}
+
+/// The printer gives the tokens of a parsed unit back.
+pub fn round_trip_law()
+    ensures { (stream : Stream) (tree : Tree) (printed : List Spelled) → SpelledBy stream tree → printed ≡ spell_tree tree → Match stream.tokens printed }
 {}

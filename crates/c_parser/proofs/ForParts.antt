@@ -1,0 +1,37 @@
+-- What is left of a `for` statement behind how it begins, by what its parts are read as.
+use Rattle.std.proofs.Common.{◌≡◌, ℕ, List, ◌++◌, Option, sym, ◌∙◌, ap}
+use Rattle.critical_table.specs.declared.pos.Pos.{Pos}
+use Rattle.c_lexer.specs.declared.punct.Punct.TheVariants as p
+use Rattle.c_lexer.specs.declared.token.Token.{Token}
+use Rattle.c_parser.specs.Reader.{Found, Stopped, Why, Reader, and_then, ◌>>=◌, give}
+use Rattle.c_parser.specs.ReadBody.{Statements, optional, for_begun}
+use Rattle.c_parser.specs.ReadToken.{is_mark}
+use Rattle.c_parser.specs.Scopes.{Scope}
+use Rattle.c_parser.specs.ScopesUnit.{optional_adds}
+use Rattle.c_parser.specs.Tree.{Expr}
+use Rattle.c_parser.specs.TreeUnit.{ForInit, Statement, For}
+use Rattle.c_parser.proofs.Again.{then_read}
+
+module _ (k : ℕ) (low : Statements) (scope tested stepped : Scope) (pos : Pos) (init : ForInit) (tokens : List Token) (test : Option Expr) (mid : List Token)
+    (test_read : optional k low (is_mark p.Semicolon) scope tokens ≡ Found test mid) (in_test : tested ≡ scope ++ optional_adds test) where
+  behind_test : Scope → Reader Statement
+  behind_test s = optional k low (is_mark p.CloseParen) s >>= λ step. low.statement (s ++ optional_adds step) >>= λ turn. give (For pos init test step turn)
+
+  for_tested : for_begun k low scope pos init tokens ≡ behind_test tested mid
+  unfolding behind_test
+  for_tested = then_read _ _ test mid _ test_read (ap (λ s. behind_test s mid) (sym in_test))
+
+  pub step_refused : (why : Why) (rest : List Token) → optional k low (is_mark p.CloseParen) tested mid ≡ Stopped why rest → for_begun k low scope pos init tokens ≡ Stopped why rest
+  unfolding behind_test
+  step_refused why rest e = for_tested ∙ ap (λ g. and_then g (λ step. low.statement (tested ++ optional_adds step) >>= λ turn. give (For pos init test step turn))) e
+
+  module _ (step : Option Expr) (behind : List Token) (step_read : optional k low (is_mark p.CloseParen) tested mid ≡ Found step behind) (in_step : stepped ≡ tested ++ optional_adds step) where
+    for_stepped : for_begun k low scope pos init tokens ≡ and_then (low.statement stepped behind) (λ turn. give (For pos init test step turn))
+    unfolding behind_test
+    for_stepped = for_tested ∙ then_read _ _ step behind _ step_read (ap (λ s. and_then (low.statement s behind) (λ turn. give (For pos init test step turn))) (sym in_step))
+
+    pub turn_refused : (why : Why) (rest : List Token) → low.statement stepped behind ≡ Stopped why rest → for_begun k low scope pos init tokens ≡ Stopped why rest
+    turn_refused why rest e = for_stepped ∙ ap (λ g. and_then g (λ turn. give (For pos init test step turn))) e
+
+    pub for_read : (turn : Statement) (rest : List Token) → low.statement stepped behind ≡ Found turn rest → for_begun k low scope pos init tokens ≡ Found (For pos init test step turn) rest
+    for_read turn rest e = for_stepped ∙ ap (λ g. and_then g (λ turn. give (For pos init test step turn))) e

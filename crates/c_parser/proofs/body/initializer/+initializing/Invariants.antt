@@ -1,0 +1,42 @@
+-- Each call ends by what is left of the height, and within one height by who calls whom.
+use Rattle.std.proofs.Common.{◌≡◌, List, Bool, length, map, ◌+◌, ◌*◌, ◌++◌}
+use Rattle.c_parser.specs.Reader.{and_then, give}
+use Rattle.c_parser.specs.ReadBody.{initializers, listed_items, items}
+use Rattle.c_parser.specs.ScopesUnit.{items_add}
+use Rattle.c_parser.specs.TreeUnit.{Item}
+use Rattle.c_parser.specs.ViewUnit.{item_of}
+use Rattle.c_parser.proofs.body.initializer.+initializing.Given as goal
+
+abbrev pub decreases-initializer : goal.decreases-initializer
+decreases-initializer l = 64 * l.h
+
+abbrev pub decreases-initializer_at : goal.decreases-initializer_at
+decreases-initializer_at l = 64 * l.k + 3
+
+abbrev pub decreases-braces : goal.decreases-braces
+decreases-braces l = 64 * l.k + 2
+
+abbrev pub decreases-listed_items : goal.decreases-listed_items
+decreases-listed_items l = 64 * l.k + 1
+
+abbrev pub invariant-listed_items-each : goal.invariant-listed_items-each
+invariant-listed_items-each l = record {
+  reads : listed_items l.k (initializers l.k) l.fn.scope l.tokens
+      ≡ and_then (listed_items l.k (initializers l.k) l.scope l.rest) (λ more. give {A = List Item × Bool} (map item_of l.items.items ++ more.0, more.1));
+  scope : l.scope ≡ l.fn.scope ++ items_add (items (map item_of l.items.items));
+}
+
+abbrev pub decreases-listed_items-each : goal.decreases-listed_items-each
+decreases-listed_items-each l = length l.rest
+
+abbrev pub decreases-item : goal.decreases-item
+decreases-item l = 64 * l.h
+
+abbrev pub decreases-item_at : goal.decreases-item_at
+decreases-item_at l = 64 * l.k + 3
+
+abbrev pub decreases-member_item : goal.decreases-member_item
+decreases-member_item l = 64 * l.k + 1
+
+abbrev pub decreases-index_item : goal.decreases-index_item
+decreases-index_item l = 64 * l.k + 1

@@ -1,0 +1,8 @@
+use Rattle.std.proofs.Common.{◌∙◌, ap}
+use Rattle.c_parser.specs.View.{declarator_of}
+use Rattle.c_parser.proofs.Parts.{function_seen}
+use Rattle.c_parser.proofs.make.declarator.function.Goals as goal
+
+pub returns-clause-tree : goal.returns-clause-tree
+returns-clause-tree c =
+    ap declarator_of c.in_ok-new.ensures.ok ∙ function_seen c.args.inner.node c.args.all.nodes c.args.variadic

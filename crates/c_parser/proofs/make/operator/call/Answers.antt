@@ -1,0 +1,8 @@
+use Rattle.std.proofs.Common.{◌∙◌, ap}
+use Rattle.c_parser.specs.View.{expr_of}
+use Rattle.c_parser.proofs.Parts.{call_of}
+use Rattle.c_parser.proofs.make.operator.call.Goals as goal
+
+pub returns-clause-tree : goal.returns-clause-tree
+returns-clause-tree c =
+    ap expr_of c.in_ok-new.ensures.ok ∙ call_of c.args.pos c.args.function.node c.args.arguments.nodes

@@ -1,0 +1,7 @@
+use Rattle.std.proofs.Common.{◌∙◌, ap}
+use Rattle.c_parser.specs.View.{expr_of}
+use Rattle.c_parser.proofs.Parts.{measured}
+use Rattle.c_parser.proofs.make.primary.measure.Goals as goal
+
+pub returns-clause-tree : goal.returns-clause-tree
+returns-clause-tree c = ap expr_of c.in_ok-new.ensures.ok ∙ measured c.args.pos c.args.operator c.args.type_name.node

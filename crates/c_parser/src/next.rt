@@ -1,0 +1,99 @@
+ghost use Rattle.std.specs.Prelude.{◌≡◌, option_copied};
+ghost use Rattle.c_parser.specs.Reader as reader;
+ghost use Rattle.c_parser.specs.ReadToken as spec;
+ghost use Rattle.c_parser.specs.Agree.{GivesRest};
+
+use crate::fault::Fault;
+use crate::specifier::Qualifier;
+use c_lexer::{Body, Punct, Token, Word};
+use critical_table::Pos;
+
+/// The next token, if there is one.
+pub(crate) fn seen(tokens: &[Token]) -> Option<&Body>
+    ensures { option_copied result ≡ reader.seen tokens.now }
+{
+    match tokens {
+        [] => None,
+        [token, ..] => Some(&token.body),
+    }
+}
+
+/// What is left behind the next token.
+pub(crate) fn tail(tokens: &[Token]) -> &[Token]
+    ensures { result.now ≡ reader.tail tokens.now }
+{
+    match tokens {
+        [] => tokens,
+        [_, rest @ ..] => rest,
+    }
+}
+
+/// The place of the next token; of no token the first one of a unit.
+pub(crate) fn place(tokens: &[Token]) -> Pos
+    ensures { result ≡ reader.place tokens.now }
+{
+    match tokens {
+        [] => Pos { line: 1, column: 1 },
+        [token, ..] => token.pos,
+    }
+}
+
+/// Whether the next token is this mark.
+pub(crate) fn is_mark(tokens: &[Token], mark: Punct) -> bool
+    ensures { result ≡ spec.is_mark mark (reader.seen tokens.now) }
+{
+    match seen(tokens) {
+        Some(Body::Mark(next)) => *next == mark,
+        _ => false,
+    }
+}
+
+/// Whether the next token is this word.
+pub(crate) fn is_word(tokens: &[Token], word: Word) -> bool
+    ensures { result ≡ spec.is_word word (reader.seen tokens.now) }
+{
+    match seen(tokens) {
+        Some(Body::Word(next)) => *next == word,
+        _ => false,
+    }
+}
+
+/// Past this mark, which has to stand here.
+pub(crate) fn expect(tokens: &[Token], mark: Punct) -> Result<&[Token], Fault<'_>>
+    ensures { GivesRest (reader.exactly (spec.is_mark mark) tokens.now) result }
+{
+    if is_mark(tokens, mark) {
+        return Ok(tail(tokens));
+    }
+    Err(Fault::Unfit(tokens))
+}
+
+/// The type qualifier that stands here (6.7.3).
+pub(crate) fn qualifier_of(tokens: &[Token]) -> Option<Qualifier>
+    ensures { result ≡ spec.qualifier_of (reader.seen tokens.now) }
+{
+    match tokens {
+        [
+            Token {
+                body: Body::Word(Word::Const),
+                ..
+            },
+            ..
+        ] => Some(Qualifier::Const),
+        [
+            Token {
+                body: Body::Word(Word::Restrict),
+                ..
+            },
+            ..
+        ] => Some(Qualifier::Restrict),
+        [
+            Token {
+                body: Body::Word(Word::Volatile),
+                ..
+            },
+            ..
+        ] => Some(Qualifier::Volatile),
+        _ => None,
+    }
+}

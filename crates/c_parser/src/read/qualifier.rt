@@ -1,0 +1,27 @@
+//! Type qualifiers (6.7.3).
+
+ghost use Rattle.c_parser.specs.Agree.{Gives};
+ghost use Rattle.c_parser.specs.ReadDeclarator as spec;
+ghost use Rattle.c_parser.specs.Scopes as names;
+
+use crate::fault::Fault;
+use crate::next::{qualifier_of, tail};
+use crate::specifier::Qualifier;
+use c_lexer::Token;
+use std::alloc::Global;
+
+/// All qualifiers that follow.
+pub(crate) fn qualifiers<'a>(
+    alloc: Global,
+    tokens: &'a [Token],
+) -> Result<(Vec<Qualifier>, &'a [Token]), Fault<'a>>
+    ensures { (scope : names.Scope) → Gives (λ x. x.items) (spec.qualifiers scope tokens.now) result }
+{
+    let mut all = Vec::new(alloc);
+    let mut rest = tokens;
+    'words: while let Some(word) = qualifier_of(rest) {
+        all.push(word)?;
+        rest = tail(rest);
+    }
+    Ok((all, rest))
+}

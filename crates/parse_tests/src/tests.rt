@@ -1,0 +1,12 @@
+// Units and what they are answered with.
+mod declarations;
+mod expressions;
+mod limits;
+mod programs;
+mod refusals;
+mod scopes;
+mod show;
+mod show_unit;
+mod statements;
+mod told;
+mod word;
