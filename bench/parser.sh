@@ -8,9 +8,9 @@ work=$(mktemp -d)
 trap 'rm -rf "$work"' EXIT
 
 mkdir -p "$work/crates/parse_timing/src"
-tar -C "$top/crates" --exclude=out -cf - critical_table c_lexer c_parser | tar -C "$work/crates" -xf -
+tar -C "$top/crates" --exclude=out -cf - critical_table c_lexer c_syntax c_parser | tar -C "$work/crates" -xf -
 cp "$top/HANDLES" "$work/"
-grep -E '^(critical_table|c_lexer|c_parser):' "$top/crates.txt" >"$work/crates.txt"
+grep -E '^(critical_table|c_lexer|c_syntax|c_parser):' "$top/crates.txt" >"$work/crates.txt"
 echo 'parse_timing: c_lexer c_parser' >>"$work/crates.txt"
 cat >"$work/crates/parse_timing/src/main.rt" <<'PROGRAM'
 //! Parses what stands on its input, and writes how many tokens it has.

@@ -2,21 +2,21 @@
 use Rattle.std.proofs.Common.{◌≡◌, Bool, true, cond, List, [], ◌∷◌, ◌++◌, map, refl, ◌∙◌, ap, Vec, Global, Box, Option, Some}
 use Rattle.std.specs.List.{flat_map}
 use Rattle.critical_table.specs.declared.pos.Pos.{Pos}
-use Rattle.c_parser.specs.declared.expression.Expr as e
-use Rattle.c_parser.specs.declared.operator.Measure.{Measure}
-use Rattle.c_parser.specs.declared.declarator.Declarator as d
-use Rattle.c_parser.specs.declared.declarator.Parameter as p
-use Rattle.c_parser.specs.declared.specifier.Specifier as s
-use Rattle.c_parser.specs.declared.specifier.CompoundWord.{CompoundWord}
-use Rattle.c_parser.specs.declared.specifier.Tag.{Tag}
-use Rattle.c_parser.specs.declared.specifier.MemberDeclaration as m
-use Rattle.c_parser.specs.declared.specifier.Enumerator as n
-use Rattle.c_parser.specs.declared.type_name.TypeName as t
-use Rattle.c_parser.specs.Tree as tree
-use Rattle.c_parser.specs.Scopes.{expr_adds, exprs_add, type_name_adds, specifier_adds, specifiers_add, member_adds, members_add, declarator_adds, declarators_add, enumerator_adds, enumerators_add, parameter_adds, parameters_add}
-use Rattle.c_parser.specs.ScopesUnit.{is_identifier, own_parameters, own_parameters_add}
-use Rattle.c_parser.specs.View.{expr_of, exprs, specifier_of, specifiers_of, declarator_of, declarators, parameter_of, parameters, member_of, members, enumerator_of, enumerators, type_name_of}
-use Rattle.c_parser.proofs.Rows.{exprs_listed, specifiers_listed, parameters_listed, members_listed, enumerators_listed}
+use Rattle.c_syntax.specs.declared.expression.Expr as e
+use Rattle.c_syntax.specs.declared.operator.Measure.{Measure}
+use Rattle.c_syntax.specs.declared.declarator.Declarator as d
+use Rattle.c_syntax.specs.declared.declarator.Parameter as p
+use Rattle.c_syntax.specs.declared.specifier.Specifier as s
+use Rattle.c_syntax.specs.declared.specifier.CompoundWord.{CompoundWord}
+use Rattle.c_syntax.specs.declared.specifier.Tag.{Tag}
+use Rattle.c_syntax.specs.declared.specifier.MemberDeclaration as m
+use Rattle.c_syntax.specs.declared.specifier.Enumerator as n
+use Rattle.c_syntax.specs.declared.type_name.TypeName as t
+use Rattle.c_syntax.specs.Tree as tree
+use Rattle.c_syntax.specs.Scopes.{expr_adds, exprs_add, type_name_adds, specifier_adds, specifiers_add, member_adds, members_add, declarator_adds, declarators_add, enumerator_adds, enumerators_add, parameter_adds, parameters_add}
+use Rattle.c_syntax.specs.ScopesUnit.{is_identifier, own_parameters, own_parameters_add}
+use Rattle.c_syntax.specs.View.{expr_of, exprs, specifier_of, specifiers_of, declarator_of, declarators, parameter_of, parameters, member_of, members, enumerator_of, enumerators, type_name_of}
+use Rattle.c_syntax.proofs.Rows.{exprs_listed, specifiers_listed, parameters_listed, members_listed, enumerators_listed}
 
 -- ---- lists
 

@@ -9,7 +9,7 @@ use Rattle.std.specs.Str.{bytes_eq}
 use Rattle.std.proofs.lemmas.Slice.Eq.{bytes_eq-Decides}
 use Rattle.c_parser.specs.declared.scope.Entry.{Entry}
 use Rattle.c_parser.specs.Known.{Known, none_known, known_behind, known_from, Hides, IsKept}
-use Rattle.c_parser.specs.Scopes.{is_type_from, is_type}
+use Rattle.c_syntax.specs.Scopes.{is_type_from, is_type}
 
 -- ---- one entry more
 

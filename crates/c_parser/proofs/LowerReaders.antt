@@ -1,6 +1,6 @@
 -- The readers of a height by those of the height below.
 use Rattle.std.proofs.Common.{◌≡◌, ℕ, zero, suc, ◌-◌, refl, subst, arith}
-use Rattle.c_parser.specs.ReadSpecifier.{higher, readers}
+use Rattle.c_syntax.specs.ReadSpecifier.{higher, readers}
 
 pub readers_at : (h : ℕ) → (h ≡ 0 → ⊥) → readers h ≡ higher (h - 1) (readers (h - 1))
 readers_at zero some = absurd (some refl)

@@ -1,11 +1,11 @@
 -- The names that a list of items or of declarators adds with one more behind it.
 use Rattle.std.proofs.Common.{◌≡◌, ℕ, Bool, List, [], ◌∷◌, ◌++◌, map, sym, ◌∙◌, ap, append_assoc}
 use Rattle.std.proofs.lemmas.List.{append-nil}
-use Rattle.c_parser.specs.declared.initializer.Item as m
-use Rattle.c_parser.specs.ReadBody.{items, init_declarator_adds}
-use Rattle.c_parser.specs.ScopesUnit.{item_adds, items_add, init_declarators_add}
-use Rattle.c_parser.specs.TreeUnit.{InitDeclarator}
-use Rattle.c_parser.specs.ViewUnit.{item_of}
+use Rattle.c_syntax.specs.declared.initializer.Item as m
+use Rattle.c_syntax.specs.ReadBody.{items, init_declarator_adds}
+use Rattle.c_syntax.specs.ScopesUnit.{item_adds, items_add, init_declarators_add}
+use Rattle.c_syntax.specs.TreeUnit.{InitDeclarator}
+use Rattle.c_syntax.specs.ViewUnit.{item_of}
 
 pub items_add_more : (all : List m.Item) (one : m.Item) → items_add (items (map item_of (all ++ one ∷ []))) ≡ items_add (items (map item_of all)) ++ item_adds (item_of one)
 items_add_more [] one = append-nil (item_adds (item_of one))

@@ -1,14 +1,14 @@
 -- The items of a statement as the program holds them, a row, and as a list.
 use Rattle.std.proofs.Common.{◌≡◌, map, refl, ◌∙◌, ap, Vec, Global}
 use Rattle.critical_table.specs.declared.pos.Pos.{Pos}
-use Rattle.c_parser.specs.declared.expression.Expr as e
-use Rattle.c_parser.specs.declared.statement.Statement as s
-use Rattle.c_parser.specs.declared.statement.BlockItem as b
-use Rattle.c_parser.specs.declared.statement.SwitchItem as w
-use Rattle.c_parser.specs.ReadBody.{switch_items}
-use Rattle.c_parser.specs.TreeUnit.{Block, MoreBlockItems, Switch, MoreSwitchItems}
-use Rattle.c_parser.specs.View.{expr_of}
-use Rattle.c_parser.specs.ViewUnit.{statement_of, block_item_of, block_row, block_items, switch_item_of, switch_row}
+use Rattle.c_syntax.specs.declared.expression.Expr as e
+use Rattle.c_syntax.specs.declared.statement.Statement as s
+use Rattle.c_syntax.specs.declared.statement.BlockItem as b
+use Rattle.c_syntax.specs.declared.statement.SwitchItem as w
+use Rattle.c_syntax.specs.ReadBody.{switch_items}
+use Rattle.c_syntax.specs.TreeUnit.{Block, MoreBlockItems, Switch, MoreSwitchItems}
+use Rattle.c_syntax.specs.View.{expr_of}
+use Rattle.c_syntax.specs.ViewUnit.{statement_of, block_item_of, block_row, block_items, switch_item_of, switch_row}
 
 block_listed : (count : _) (row : s.Row_of-BlockItem count)
     → block_row row ≡ block_items (map block_item_of (s.items-the_row-BlockItem count row))

@@ -4,54 +4,65 @@ use Rattle.std.proofs.lemmas.List.{append-nil}
 use Rattle.critical_table.specs.declared.pos.Pos.{Pos}
 use Rattle.c_lexer.specs.declared.punct.Punct.TheVariants as p
 use Rattle.c_lexer.specs.declared.token.Token.{Token}
-use Rattle.c_parser.specs.declared.read.specifier.Come.{Come}
-use Rattle.c_parser.specs.declared.read.specifier.Come.TheVariants.{Nothing, Basic, Other}
-use Rattle.c_parser.specs.declared.specifier.CompoundWord.{CompoundWord}
-use Rattle.c_parser.specs.declared.specifier.Enumerator as n
-use Rattle.c_parser.specs.declared.specifier.MemberDeclaration as m
-use Rattle.c_parser.specs.declared.specifier.Specifier as s
-use Rattle.c_parser.specs.declared.specifier.Tag.{Tag}
-use Rattle.c_parser.specs.Height.{enumerator_height, enumerators_height, member_height, members_height, specifier_height, specifiers_height}
-use Rattle.c_parser.specs.Reader.{Got, Found, Stopped, Why, Unfit, Reader, and_then, ◌>>=◌, give, look, here, exactly, many}
-use Rattle.c_parser.specs.ReadToken.{is_mark}
-use Rattle.c_parser.specs.ReadExpr.{Readers}
-use Rattle.c_parser.specs.ReadSpecifier.{Specified, is_nothing, goes_specifier, come_with, specified_with, comes, all_members, more_members, compound_body, low_specifier, specifier_at, specifier_within, with_type, specifiers_by, readers}
-use Rattle.c_parser.specs.Scopes.{Scope, enumerator_adds, enumerators_add, member_adds, members_add, specifier_adds, specifiers_add}
-use Rattle.c_parser.specs.Tree.{Specifier, Compound, MemberDeclaration}
-use Rattle.c_parser.specs.View.{enumerator_of, enumerators, member_of, members, specifier_of, specifiers_of, specifiers}
-use Rattle.c_parser.proofs.Online.{readers_take}
-use Rattle.c_parser.proofs.OnlineSpecifier.{low_specifier_online, low_specifier_takes, specifier_at_online, specifier_at_takes}
-use Rattle.c_parser.proofs.OnlineTools.{Online, TakesOne}
+use Rattle.c_syntax.specs.declared.come.Come.{Come}
+use Rattle.c_syntax.specs.declared.come.Come.TheVariants.{Nothing, Basic, Other}
+use Rattle.c_syntax.specs.declared.specifier.CompoundWord.{CompoundWord}
+use Rattle.c_syntax.specs.declared.specifier.Enumerator as n
+use Rattle.c_syntax.specs.declared.specifier.MemberDeclaration as m
+use Rattle.c_syntax.specs.declared.specifier.Specifier as s
+use Rattle.c_syntax.specs.declared.specifier.Tag.{Tag}
+use Rattle.c_syntax.specs.Height.{enumerator_height, enumerators_height, member_height, members_height, specifier_height, specifiers_height}
+use Rattle.c_syntax.specs.Reader.{Got, Found, Stopped, Why, Unfit, Reader, and_then, ◌>>=◌, give, look, here, exactly, many}
+use Rattle.c_syntax.specs.ReadToken.{is_mark, begins_type}
+use Rattle.c_syntax.specs.ReadExpr.{Readers}
+use Rattle.c_syntax.specs.ReadSpecifier.{Specified, is_nothing, goes_specifier, come_with, specified_with, comes, all_members, more_members, compound_body, low_specifier, specifier_at, specifier_within, with_type, specifiers_by, readers}
+use Rattle.c_syntax.specs.Scopes.{Scope, enumerator_adds, enumerators_add, member_adds, members_add, specifier_adds, specifiers_add}
+use Rattle.c_syntax.specs.Tree.{Specifier, Compound, MemberDeclaration}
+use Rattle.c_syntax.specs.View.{enumerator_of, enumerators, member_of, members, specifier_of, specifiers_of, specifiers}
+use Rattle.c_syntax.proofs.Online.{readers_online, readers_take}
+use Rattle.c_syntax.proofs.OnlineSpecifier.{low_specifier_online, low_specifier_takes, specifier_at_online, specifier_at_takes}
+use Rattle.c_syntax.proofs.OnlineTools.{Online, TakesOne}
+use Rattle.c_parser.proofs.Pushed.{Row}
+use Rattle.c_parser.proofs.ManyTurns.{Runs}
 use Rattle.c_parser.proofs.Turns.{and_then_both}
 
 -- ---- one more: the height, and the names
 
-pub enumerators_higher : (all : List n.Enumerator) (one : n.Enumerator) → enumerators_height (enumerators (map enumerator_of (all ++ one ∷ []))) ≡ max (enumerators_height (enumerators (map enumerator_of all))) (enumerator_height (enumerator_of one))
+enumerators_higher : (all : List n.Enumerator) (one : n.Enumerator) → enumerators_height (enumerators (map enumerator_of (all ++ one ∷ []))) ≡ max (enumerators_height (enumerators (map enumerator_of all))) (enumerator_height (enumerator_of one))
 enumerators_higher [] one = omega arith
 enumerators_higher (first ∷ rest) one = let h = enumerators_higher rest one in omega arith
 
-pub enumerators_add_more : (all : List n.Enumerator) (one : n.Enumerator) → enumerators_add (enumerators (map enumerator_of (all ++ one ∷ []))) ≡ enumerators_add (enumerators (map enumerator_of all)) ++ enumerator_adds (enumerator_of one)
+enumerators_add_more : (all : List n.Enumerator) (one : n.Enumerator) → enumerators_add (enumerators (map enumerator_of (all ++ one ∷ []))) ≡ enumerators_add (enumerators (map enumerator_of all)) ++ enumerator_adds (enumerator_of one)
 enumerators_add_more [] one = append-nil (enumerator_adds (enumerator_of one))
 enumerators_add_more (first ∷ rest) one =
     ap (λ more. enumerator_adds (enumerator_of first) ++ more) (enumerators_add_more rest one) ∙ sym (append_assoc (enumerator_adds (enumerator_of first)) (enumerators_add (enumerators (map enumerator_of rest))) (enumerator_adds (enumerator_of one)))
 
-pub members_higher : (all : List m.MemberDeclaration) (one : m.MemberDeclaration) → members_height (members (map member_of (all ++ one ∷ []))) ≡ max (members_height (members (map member_of all))) (member_height (member_of one))
+pub enumerator_row : Row enumerator_of enumerator_height enumerator_adds (λ all. enumerators_height (enumerators (map enumerator_of all))) (λ all. enumerators_add (enumerators (map enumerator_of all)))
+enumerator_row = record { higher = enumerators_higher; add_more = enumerators_add_more }
+
+members_higher : (all : List m.MemberDeclaration) (one : m.MemberDeclaration) → members_height (members (map member_of (all ++ one ∷ []))) ≡ max (members_height (members (map member_of all))) (member_height (member_of one))
 members_higher [] one = omega arith
 members_higher (first ∷ rest) one = let h = members_higher rest one in omega arith
 
-pub members_add_more : (all : List m.MemberDeclaration) (one : m.MemberDeclaration) → members_add (members (map member_of (all ++ one ∷ []))) ≡ members_add (members (map member_of all)) ++ member_adds (member_of one)
+members_add_more : (all : List m.MemberDeclaration) (one : m.MemberDeclaration) → members_add (members (map member_of (all ++ one ∷ []))) ≡ members_add (members (map member_of all)) ++ member_adds (member_of one)
 members_add_more [] one = append-nil (member_adds (member_of one))
 members_add_more (first ∷ rest) one =
     ap (λ more. member_adds (member_of first) ++ more) (members_add_more rest one) ∙ sym (append_assoc (member_adds (member_of first)) (members_add (members (map member_of rest))) (member_adds (member_of one)))
 
-pub specifiers_higher : (all : List s.Specifier) (one : s.Specifier) → specifiers_height (specifiers_of (all ++ one ∷ [])) ≡ max (specifiers_height (specifiers_of all)) (specifier_height (specifier_of one))
+pub member_row : Row member_of member_height member_adds (λ all. members_height (members (map member_of all))) (λ all. members_add (members (map member_of all)))
+member_row = record { higher = members_higher; add_more = members_add_more }
+
+specifiers_higher : (all : List s.Specifier) (one : s.Specifier) → specifiers_height (specifiers_of (all ++ one ∷ [])) ≡ max (specifiers_height (specifiers_of all)) (specifier_height (specifier_of one))
 specifiers_higher [] one = omega arith
 specifiers_higher (first ∷ rest) one = let h = specifiers_higher rest one in omega arith
 
-pub specifiers_add_more : (all : List s.Specifier) (one : s.Specifier) → specifiers_add (specifiers_of (all ++ one ∷ [])) ≡ specifiers_add (specifiers_of all) ++ specifier_adds (specifier_of one)
+specifiers_add_more : (all : List s.Specifier) (one : s.Specifier) → specifiers_add (specifiers_of (all ++ one ∷ [])) ≡ specifiers_add (specifiers_of all) ++ specifier_adds (specifier_of one)
 specifiers_add_more [] one = append-nil (specifier_adds (specifier_of one))
 specifiers_add_more (first ∷ rest) one =
     ap (λ more. specifier_adds (specifier_of first) ++ more) (specifiers_add_more rest one) ∙ sym (append_assoc (specifier_adds (specifier_of first)) (specifiers_add (specifiers_of rest)) (specifier_adds (specifier_of one)))
+
+pub specifier_row : Row specifier_of specifier_height specifier_adds (λ all. specifiers_height (specifiers_of all)) (λ all. specifiers_add (specifiers_of all))
+specifier_row = record { higher = specifiers_higher; add_more = specifiers_add_more }
 
 -- ---- members
 
@@ -78,20 +89,27 @@ body_unclosed k low scope pos word tag tokens mid rest why all e f =
     body_all k low scope pos word tag tokens ∙ ap (λ g. and_then g (λ all. exactly (is_mark p.CloseBrace) >>= λ _. give (Compound pos word tag (members all)))) e
     ∙ ap (λ g. and_then g (λ _. give (Compound pos word tag (members all)))) f
 
+pub members_run : (k : ℕ) → Runs (more_members k (readers k)) begins_type (readers k).member (λ s one. s ++ member_adds one)
+unfolding more_members
+members_run k = record { is = λ s tokens. refl; on = (readers_online k).member; ends = λ s. refl; takes = (readers_take k).member }
+
 -- ---- specifiers
 
 abbrev pub step : ℕ → Specified → Reader Specifier
 step h s = here (λ pos. look (specifier_within h s.scope pos))
 
-pub step_online : (h : ℕ) (s : Specified) → Online (step h s)
+step_online : (h : ℕ) (s : Specified) → Online (step h s)
 unfolding low_specifier specifier_at
 step_online zero s = low_specifier_online s
 step_online (suc k) s = specifier_at_online k (readers k) (readers_take k).online (readers_take k).member s
 
-pub step_takes : (h : ℕ) (s : Specified) → TakesOne (step h s)
+step_takes : (h : ℕ) (s : Specified) → TakesOne (step h s)
 unfolding low_specifier specifier_at
 step_takes zero s = low_specifier_takes s
 step_takes (suc k) s = specifier_at_takes k (readers k) (readers_take k).online (readers_take k).member s
+
+pub specifiers_run : (h : ℕ) → Runs (many goes_specifier (step h) specified_with) goes_specifier (step h) specified_with
+specifiers_run h = record { is = λ s tokens. refl; on = step_online h; ends = λ s. refl; takes = step_takes h }
 
 abbrev pub start : Scope → Specified
 start scope = record { scope = scope; come = Nothing }
@@ -102,9 +120,9 @@ unfolding low_specifier specifier_at specifiers_by
 of_many zero scope tokens = refl
 of_many (suc k) scope tokens = refl
 
-pub many_stopped : (h : ℕ) (scope : Scope) (tokens rest : List Token) (why : Why) → many goes_specifier (step h) specified_with (start scope) tokens ≡ Stopped why rest
+pub many_stopped : (h : ℕ) (scope : Scope) (tokens : List Token) (why : Why) (rest : List Token) → many goes_specifier (step h) specified_with (start scope) tokens ≡ Stopped why rest
     → (readers h).specifiers scope tokens ≡ Stopped why rest
-many_stopped h scope tokens rest why e = of_many h scope tokens ∙ ap (λ g. and_then g (λ all. with_type (comes Nothing all) all)) e
+many_stopped h scope tokens why rest e = of_many h scope tokens ∙ ap (λ g. and_then g (λ all. with_type (comes Nothing all) all)) e
 
 pub comes_more : (come : Come) (all : List Specifier) (one : Specifier) → comes come (all ++ one ∷ []) ≡ come_with (comes come all) one
 comes_more come [] one = refl

@@ -5,11 +5,11 @@ use Rattle.c_lexer.specs.declared.punct.Punct.{Punct}
 use Rattle.c_lexer.specs.declared.token.Body.TheVariants as body
 use Rattle.c_lexer.specs.declared.token.Token.{Token}
 use Rattle.c_lexer.specs.declared.token.Body.{Body}
-use Rattle.c_parser.specs.Reader.{Got, Found, Stopped, Why, TooDeep, Reader, and_then, ◌>>=◌, give, seen, tail, many, climb, ones, has_ending, behind_comma, more_listed, listed}
-use Rattle.c_parser.proofs.Again.{then_read, chosen_first, chosen_second, climb_step, tail_shorter}
-use Rattle.c_parser.specs.ReadToken.{is_mark}
-use Rattle.c_parser.proofs.TokenTests.{is_mark_is}
-use Rattle.c_parser.proofs.OnlineTools.{Online, TakesOne, no_longer, many_is, behind_online, behind_takes, no_comma}
+use Rattle.c_syntax.specs.Reader.{Got, Found, Stopped, Why, TooDeep, Reader, and_then, ◌>>=◌, give, seen, tail, many, climb, ones, has_ending, behind_comma, more_listed, listed}
+use Rattle.c_syntax.proofs.Again.{then_read, chosen_first, chosen_second, climb_step, tail_shorter}
+use Rattle.c_syntax.specs.ReadToken.{is_mark}
+use Rattle.c_syntax.proofs.TokenTests.{is_mark_is}
+use Rattle.c_syntax.proofs.OnlineTools.{Online, TakesOne, no_longer, many_is, behind_online, behind_takes, no_comma}
 
 pub then_stopped : {A B : Type 0} (g : Got A) (f : A → Reader B) (why : Why) (rest : List Token) → g ≡ Stopped why rest → and_then g f ≡ Stopped why rest
 then_stopped g f why rest e = ap (λ g. and_then g f) e

@@ -1,7 +1,6 @@
 -- What a function of the program ensures: it gives what a reader gives, unless memory runs out.
-use Rattle.std.specs.Prelude.{◌≡◌, List, [], ◌∷◌, Result, Ok, Err}
+use Rattle.std.specs.Prelude.{◌≡◌, List, Result, Ok, Err}
 use denote.Ref.{Bor}
-use Rattle.critical_table.specs.declared.pos.Pos.{Pos}
 use Rattle.critical_table.specs.declared.refusal.Refusal.TheVariants.{Syntax, Deep}
 use Rattle.c_lexer.specs.declared.token.Token.{Token}
 use Rattle.c_lexer.specs.Stream.{Stream}
@@ -9,8 +8,8 @@ use Rattle.c_parser.specs.declared.fault.Fault.{Fault}
 use Rattle.c_parser.specs.declared.fault.Fault.TheVariants as fault
 use Rattle.c_parser.specs.declared.fault.SyntaxFault.{SyntaxFault}
 use Rattle.c_parser.specs.declared.fault.SyntaxFault.TheVariants as syntax
-use Rattle.c_parser.specs.Parsing.{RefusedAt}
-use Rattle.c_parser.specs.Reader.{Got, Found, Stopped, Unfit, TooDeep}
+use Rattle.c_syntax.specs.Parsing.{RefusedAt}
+use Rattle.c_syntax.specs.Reader.{Got, Found, Stopped, Unfit, TooDeep}
 
 abbrev pub Refuses : {Y : Type 0} → Got Y → Fault → Type 0
 Refuses got (fault.Unfit rest) = got ≡ Stopped Unfit rest.now
@@ -26,13 +25,6 @@ Gives view got (Err e) = Refuses got e
 abbrev pub GivesRest : Got (Unit {0}) → Result (Bor (List Token)) Fault → Type 0
 GivesRest got (Ok rest) = got ≡ Found tt rest.now
 GivesRest got (Err e) = Refuses got e
-
--- ---- the unit
-
--- the place of the next token, or behind the last byte
-abbrev pub stopped_at : Stream → List Token → Pos
-stopped_at stream [] = stream.end
-stopped_at stream (token ∷ after) = token.pos
 
 -- why the unit is refused, and where, unless memory runs out
 abbrev pub IsRefusal : Stream → SyntaxFault → Type 0

@@ -2,14 +2,14 @@
 
 ghost use Rattle.std.specs.Prelude.{◌≡◌, Some};
 ghost use Rattle.c_lexer.specs.declared.token.Body.{Body};
-ghost use Rattle.c_parser.specs.First as first;
-ghost use Rattle.c_parser.specs.ReadExpr as expressions;
-ghost use Rattle.c_parser.specs.Reader.{seen};
-ghost use Rattle.c_parser.specs.ReadToken as spec;
+ghost use Rattle.c_syntax.specs.First as first;
+ghost use Rattle.c_syntax.specs.ReadExpr as expressions;
+ghost use Rattle.c_syntax.specs.Reader.{seen};
+ghost use Rattle.c_syntax.specs.ReadToken as spec;
 
-use crate::operator::Prefix;
 use crate::scope::Scope;
 use c_lexer::{Body, Punct, Token, Word};
+use c_syntax::operator::Prefix;
 
 /// Whether the word begins a declaration specifier (6.7.1 to 6.7.4).
 fn is_specifier_word(word: Word) -> bool

@@ -1,12 +1,12 @@
 //! What specifiers and declarators say of a declared name.
 
 ghost use Rattle.std.specs.Prelude.{◌≡◌, ◌++◌, option_copied, IfOk};
-ghost use Rattle.c_parser.specs.Scopes as names;
-ghost use Rattle.c_parser.specs.View.{specifiers_of, declarator_of};
+ghost use Rattle.c_syntax.specs.Scopes as names;
+ghost use Rattle.c_syntax.specs.View.{specifiers_of, declarator_of};
 
-use crate::declarator::Declarator;
 use crate::scope::Scope;
-use crate::specifier::{Specifier, Storage};
+use c_syntax::declarator::Declarator;
+use c_syntax::specifier::{Specifier, Storage};
 use critical_table::Name;
 use std::alloc::{AllocError, Global};
 

@@ -3,16 +3,16 @@
 
 ghost use Rattle.std.specs.Prelude.{◌≡◌, ◌++◌, IfOk};
 ghost use Rattle.std.specs.List.{flat_map};
-ghost use Rattle.c_parser.specs.Scopes as spec;
-ghost use Rattle.c_parser.specs.ScopesUnit as unit;
-ghost use Rattle.c_parser.specs.View as view;
+ghost use Rattle.c_syntax.specs.Scopes as spec;
+ghost use Rattle.c_syntax.specs.ScopesUnit as unit;
+ghost use Rattle.c_syntax.specs.View as view;
 
-use crate::declarator::{Declarator, Parameter};
 use crate::declared::{declare_own_name, names_types};
-use crate::expression::Expr;
 use crate::scope::Scope;
-use crate::specifier::{Enumerator, MemberDeclaration, Specifier};
-use crate::type_name::TypeName;
+use c_syntax::declarator::{Declarator, Parameter};
+use c_syntax::expression::Expr;
+use c_syntax::specifier::{Enumerator, MemberDeclaration, Specifier};
+use c_syntax::type_name::TypeName;
 use std::alloc::{AllocError, Global};
 
 /// Declares the enumerators of an expression: `(enum {A})0 + A` has `A` in scope behind the cast.

@@ -1,12 +1,12 @@
 //! Precedence and association as levels (6.5): the higher binds tighter.
 
 ghost use Rattle.std.specs.Prelude.{◌≡◌, ◌≤◌};
-ghost use Rattle.c_parser.specs.Levels as spec;
-ghost use Rattle.c_parser.specs.ReadExpr.{own_level as level_of_tree};
-ghost use Rattle.c_parser.specs.View.{expr_of};
+ghost use Rattle.c_syntax.specs.Levels as spec;
+ghost use Rattle.c_syntax.specs.ReadExpr.{own_level as level_of_tree};
+ghost use Rattle.c_syntax.specs.View.{expr_of};
 
-use crate::expression::Expr;
-use crate::operator::{Arithmetic, Comparison, Infix, Prefix};
+use c_syntax::expression::Expr;
+use c_syntax::operator::{Arithmetic, Comparison, Infix, Prefix};
 
 /// 6.5.17
 pub(crate) const EXPRESSION: u8 = 0;

@@ -1,51 +1,18 @@
-//! The syntax of a unit of C (6.5 to 6.9): its tree, the tokens that spell a tree, which trees are well-formed, and the one
-//! tree or the one refused place of each list of tokens.
+//! The parser: the syntax tree of a unit's tokens, or where and why they have none.
 #![tactic(auto)]
 
 mod begins;
 mod body;
-pub mod declaration;
-pub mod declarator;
 mod declared;
 mod declares;
-pub mod expression;
 mod fault;
-mod form;
-pub mod initializer;
-pub mod law;
 mod level;
 mod make;
 mod next;
-pub mod operator;
-mod output;
 mod parse_unit;
 mod part;
 mod read;
 mod scope;
-pub mod specifier;
-mod spell_expression;
-mod spell_unit;
-pub mod spelled;
-pub mod statement;
-pub mod type_name;
-pub mod unit;
-mod words;
 
-pub use declaration::{Assert, Declaration, InitDeclarator};
-pub use declarator::{Declarator, Parameter};
-pub use expression::{Constant, Expr, Literals};
 pub use fault::SyntaxFault;
-pub use initializer::{Initializer, Item};
-pub use law::{
-    answer_law, first_token_law, height_law, one_tree_law, round_trip_law, spelling_law,
-};
-pub use operator::{Access, Arithmetic, Comparison, Infix, Measure, Postfix, Prefix};
 pub use parse_unit::parse;
-pub use specifier::{
-    BasicWord, CompoundWord, Enumerator, MemberDeclaration, Qualifier, Specifier, Storage, Tag,
-};
-pub use spell_unit::spelling;
-pub use spelled::Spelled;
-pub use statement::{BlockItem, ForInit, Statement, SwitchItem};
-pub use type_name::TypeName;
-pub use unit::{External, Function, Tree};

@@ -1,11 +1,11 @@
 ghost use Rattle.std.specs.Prelude.{◌≡◌, option_copied};
-ghost use Rattle.c_parser.specs.Reader as reader;
-ghost use Rattle.c_parser.specs.ReadToken as spec;
+ghost use Rattle.c_syntax.specs.Reader as reader;
+ghost use Rattle.c_syntax.specs.ReadToken as spec;
 ghost use Rattle.c_parser.specs.Agree.{GivesRest};
 
 use crate::fault::Fault;
-use crate::specifier::Qualifier;
 use c_lexer::{Body, Punct, Token, Word};
+use c_syntax::specifier::Qualifier;
 use critical_table::Pos;
 
 /// The next token, if there is one.

@@ -2,13 +2,14 @@
 
 ghost use Rattle.std.specs.Prelude.{◌≡◌, IfOk, IfErr};
 ghost use Rattle.c_parser.specs.Agree as spec;
-ghost use Rattle.c_parser.specs.Parsing.{SpelledBy};
-ghost use Rattle.c_parser.specs.ViewUnit.{tree_of};
+ghost use Rattle.c_syntax.specs.Parsing as parsing;
+ghost use Rattle.c_syntax.specs.Parsing.{SpelledBy};
+ghost use Rattle.c_syntax.specs.ViewUnit.{tree_of};
 
 use crate::body::unit::externals;
 use crate::fault::{Fault, SyntaxFault};
-use crate::unit::Tree;
 use c_lexer::{Token, Tokens};
+use c_syntax::unit::Tree;
 use critical_table::Pos;
 use std::alloc::Global;
 
@@ -17,7 +18,7 @@ const HEIGHT: usize = 254;
 
 /// The place of the first of the tokens that are left, or behind the last byte.
 fn stopped_at(tokens: &Tokens, rest: &[Token]) -> Pos
-    ensures { result ≡ spec.stopped_at tokens.now rest.now }
+    ensures { result ≡ parsing.stopped_at tokens.now rest.now }
 {
     match rest {
         [] => tokens.end(),

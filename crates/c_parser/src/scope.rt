@@ -1,5 +1,5 @@
 ghost use Rattle.std.specs.Prelude.{◌≡◌, ◌++◌, ◌∷◌, ◌≤◌, ◌-◌, [], length, map, take, true, IfOk};
-ghost use Rattle.c_parser.specs.Scopes as spec;
+ghost use Rattle.c_syntax.specs.Scopes as spec;
 
 use critical_table::Name;
 use std::alloc::{AllocError, Global};
@@ -25,7 +25,7 @@ pub(crate) struct Scope {
 
 impl Model for Scope {
     ghost use Rattle.std.specs.Prelude.{List, map};
-    ghost use Rattle.c_parser.specs.Scopes.{DeclaredName};
+    ghost use Rattle.c_syntax.specs.Scopes.{DeclaredName};
 
     ghost Value = { List DeclaredName };
 

@@ -3,32 +3,32 @@
 ghost use Rattle.std.specs.Prelude.{◌≡◌, ◌^◌, ◌<◌, ◌++◌, map, IfOk};
 ghost use Rattle.c_lexer.specs.declared.punct.Punct.TheVariants as p;
 ghost use Rattle.c_parser.specs.Agree.{Gives};
-ghost use Rattle.c_parser.specs.ReadBody as spec;
-ghost use Rattle.c_parser.specs.Reader.{seen};
-ghost use Rattle.c_parser.specs.ReadToken as token;
-ghost use Rattle.c_parser.specs.Scopes as names;
-ghost use Rattle.c_parser.specs.Scopes.{declarator_adds};
-ghost use Rattle.c_parser.specs.ScopesUnit.{declaration_adds, init_declarators_add};
-ghost use Rattle.c_parser.specs.View.{specifiers_of, declarator_of};
-ghost use Rattle.c_parser.specs.ViewUnit.{declaration_of, init_declarator_of};
+ghost use Rattle.c_syntax.specs.ReadBody as spec;
+ghost use Rattle.c_syntax.specs.Reader.{seen};
+ghost use Rattle.c_syntax.specs.ReadToken as token;
+ghost use Rattle.c_syntax.specs.Scopes as names;
+ghost use Rattle.c_syntax.specs.Scopes.{declarator_adds};
+ghost use Rattle.c_syntax.specs.ScopesUnit.{declaration_adds, init_declarators_add};
+ghost use Rattle.c_syntax.specs.View.{specifiers_of, declarator_of};
+ghost use Rattle.c_syntax.specs.ViewUnit.{declaration_of, init_declarator_of};
 
 use crate::body::initializer::initializer;
-use crate::declaration::{Declaration, InitDeclarator};
-use crate::declarator::Declarator;
 use crate::declared::{declare_own_name, names_types};
 use crate::fault::Fault;
-use crate::form::Form;
 use crate::make::declaration as make;
 use crate::next::{expect, is_mark, tail};
 use crate::read::height::declarator;
 use crate::read::specifier::specifiers;
 use crate::scope::Scope;
-use crate::specifier::Specifier;
 use c_lexer::{Punct, Token};
+use c_syntax::declaration::{Declaration, InitDeclarator};
+use c_syntax::declarator::Declarator;
+use c_syntax::form::Form;
+use c_syntax::specifier::Specifier;
 use std::alloc::Global;
 
 /// A declaration whose parts are of a height at most.
-#[tactic(auto, unfolding(crate::specs::ReadBody::declaration_at, crate::specs::ReadBody::declaration_on))]
+#[tactic(auto, unfolding(c_syntax::specs::ReadBody::declaration_at, c_syntax::specs::ReadBody::declaration_on))]
 pub(crate) fn declaration_at<'a>(
     alloc: Global,
     scope: &mut Scope,
@@ -70,7 +70,7 @@ fn declaration_on<'a>(
 }
 
 /// What is left of a declaration behind its specifiers and its first declarator.
-#[tactic(auto, unfolding(crate::specs::ReadBody::declared_on, crate::specs::ReadBody::init_on))]
+#[tactic(auto, unfolding(c_syntax::specs::ReadBody::declared_on, c_syntax::specs::ReadBody::init_on))]
 pub(crate) fn declared_on<'a>(
     alloc: Global,
     scope: &mut Scope,
@@ -138,7 +138,7 @@ fn all_declarators<'a>(
 }
 
 /// A declarator with its initializer.
-#[tactic(auto, unfolding(crate::specs::ReadBody::init_declarator, crate::specs::ReadBody::init_on))]
+#[tactic(auto, unfolding(c_syntax::specs::ReadBody::init_declarator, c_syntax::specs::ReadBody::init_on))]
 fn init_declarator<'a>(
     alloc: Global,
     scope: &mut Scope,

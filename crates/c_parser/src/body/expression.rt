@@ -3,24 +3,24 @@
 ghost use Rattle.std.specs.Prelude.{◌≡◌, ◌^◌, ◌<◌, ◌++◌, IfOk};
 ghost use Rattle.std.specs.Option.{option_map};
 ghost use Rattle.c_parser.specs.Agree.{Gives};
-ghost use Rattle.c_parser.specs.ReadBody as spec;
-ghost use Rattle.c_parser.specs.ReadToken as test;
-ghost use Rattle.c_parser.specs.Scopes.{expr_adds};
-ghost use Rattle.c_parser.specs.ScopesUnit.{optional_adds};
-ghost use Rattle.c_parser.specs.View.{expr_of};
+ghost use Rattle.c_syntax.specs.ReadBody as spec;
+ghost use Rattle.c_syntax.specs.ReadToken as test;
+ghost use Rattle.c_syntax.specs.Scopes.{expr_adds};
+ghost use Rattle.c_syntax.specs.ScopesUnit.{optional_adds};
+ghost use Rattle.c_syntax.specs.View.{expr_of};
 
 use crate::begins::begins_expr;
-use crate::expression::Expr;
 use crate::fault::Fault;
 use crate::level::EXPRESSION;
 use crate::next::{expect, is_mark, tail};
 use crate::read::height::expr;
 use crate::scope::Scope;
 use c_lexer::{Punct, Token};
+use c_syntax::expression::Expr;
 use std::alloc::Global;
 
 /// An expression (6.5.17) of a height at most.
-#[tactic(auto, unfolding(crate::specs::ReadBody::an_expr, crate::specs::ReadExpr::wanted))]
+#[tactic(auto, unfolding(c_syntax::specs::ReadBody::an_expr, c_syntax::specs::ReadExpr::wanted))]
 fn an_expr<'a>(
     alloc: Global,
     scope: &mut Scope,
@@ -42,7 +42,7 @@ fn an_expr<'a>(
 }
 
 /// An expression or none, and past the mark behind it.
-#[tactic(auto, unfolding(crate::specs::ReadBody::optional))]
+#[tactic(auto, unfolding(c_syntax::specs::ReadBody::optional))]
 pub(crate) fn optional<'a>(
     alloc: Global,
     scope: &mut Scope,
@@ -65,7 +65,7 @@ pub(crate) fn optional<'a>(
 }
 
 /// The controlling expression of a statement (6.8.4p1, 6.8.5p2), in its parentheses.
-#[tactic(auto, unfolding(crate::specs::ReadBody::controlling))]
+#[tactic(auto, unfolding(c_syntax::specs::ReadBody::controlling))]
 pub(crate) fn controlling<'a>(
     alloc: Global,
     scope: &mut Scope,

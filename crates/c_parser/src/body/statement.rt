@@ -2,11 +2,11 @@
 
 ghost use Rattle.std.specs.Prelude.{◌≡◌, ◌^◌, ◌<◌, ◌++◌, [], map, IfOk};
 ghost use Rattle.c_parser.specs.Agree.{Gives};
-ghost use Rattle.c_parser.specs.Reader.{seen};
-ghost use Rattle.c_parser.specs.ReadBody as spec;
-ghost use Rattle.c_parser.specs.ScopesUnit.{statement_adds};
-ghost use Rattle.c_parser.specs.TreeUnit as tree;
-ghost use Rattle.c_parser.specs.ViewUnit.{statement_of, block_item_of, block_items};
+ghost use Rattle.c_syntax.specs.Reader.{seen};
+ghost use Rattle.c_syntax.specs.ReadBody as spec;
+ghost use Rattle.c_syntax.specs.ScopesUnit.{statement_adds};
+ghost use Rattle.c_syntax.specs.TreeUnit as tree;
+ghost use Rattle.c_syntax.specs.ViewUnit.{statement_of, block_item_of, block_items};
 
 use crate::begins::begins_expr;
 use crate::body::block::block_run;
@@ -17,8 +17,8 @@ use crate::fault::Fault;
 use crate::make;
 use crate::next::{expect, is_mark};
 use crate::scope::Scope;
-use crate::statement::{BlockItem, Statement};
 use c_lexer::{Body, Punct, Token, Word};
+use c_syntax::statement::{BlockItem, Statement};
 use critical_table::Pos;
 use std::alloc::Global;
 
@@ -80,7 +80,7 @@ pub(crate) fn statement<'a>(
 
 /// A statement whose parts are of a height at most.
 #[cycle(executing)]
-#[tactic(auto, unfolding(crate::specs::ReadBody::statement_at))]
+#[tactic(auto, unfolding(c_syntax::specs::ReadBody::statement_at))]
 pub(crate) fn statement_at<'a>(
     alloc: Global,
     scope: &mut Scope,
@@ -131,7 +131,7 @@ fn compound<'a>(
 
 /// The items of a block behind its opening brace, of a height at most, and past its closing brace.
 #[cycle(executing)]
-#[tactic(auto, unfolding(crate::specs::ReadBody::block_with))]
+#[tactic(auto, unfolding(c_syntax::specs::ReadBody::block_with))]
 pub(crate) fn block<'a>(
     alloc: Global,
     scope: &mut Scope,

@@ -2,33 +2,33 @@
 
 ghost use Rattle.std.specs.Prelude.{◌≡◌, ◌^◌, ◌<◌, ◌++◌, map, IfOk, is_some};
 ghost use Rattle.c_parser.specs.Agree.{Gives};
-ghost use Rattle.c_parser.specs.ReadBody as spec;
-ghost use Rattle.c_parser.specs.Reader.{seen};
-ghost use Rattle.c_parser.specs.ReadToken as next;
-ghost use Rattle.c_parser.specs.Scopes as names;
-ghost use Rattle.c_parser.specs.Scopes.{specifiers_add, declarator_adds};
-ghost use Rattle.c_parser.specs.ScopesUnit.{own_parameters, external_adds};
-ghost use Rattle.c_parser.specs.View.{specifiers_of, declarator_of};
-ghost use Rattle.c_parser.specs.ViewUnit.{block_item_of, block_items, external_of};
+ghost use Rattle.c_syntax.specs.ReadBody as spec;
+ghost use Rattle.c_syntax.specs.Reader.{seen};
+ghost use Rattle.c_syntax.specs.ReadToken as next;
+ghost use Rattle.c_syntax.specs.Scopes as names;
+ghost use Rattle.c_syntax.specs.Scopes.{specifiers_add, declarator_adds};
+ghost use Rattle.c_syntax.specs.ScopesUnit.{own_parameters, external_adds};
+ghost use Rattle.c_syntax.specs.View.{specifiers_of, declarator_of};
+ghost use Rattle.c_syntax.specs.ViewUnit.{block_item_of, block_items, external_of};
 
 use crate::body::assertion::assert_at;
 use crate::body::declaration::declared_on;
 use crate::body::statement::block;
-use crate::declaration::Declaration;
-use crate::declarator::Declarator;
 use crate::declared::{declare_own_name, names_types};
 use crate::declares::{declare_own_parameters, is_identifier};
 use crate::fault::Fault;
-use crate::form::Form;
 use crate::make::unit;
 use crate::next::{is_mark, is_word, tail};
 use crate::read::height::declarator;
 use crate::read::specifier::specifiers;
 use crate::scope::Scope;
-use crate::specifier::Specifier;
-use crate::statement::BlockItem;
-use crate::unit::External;
 use c_lexer::{Punct, Token, Word};
+use c_syntax::declaration::Declaration;
+use c_syntax::declarator::Declarator;
+use c_syntax::form::Form;
+use c_syntax::specifier::Specifier;
+use c_syntax::statement::BlockItem;
+use c_syntax::unit::External;
 use std::alloc::Global;
 
 /// Whether the part nearest to the identifier, parentheses aside, is a parameter list.
@@ -91,7 +91,7 @@ fn function<'a>(
 }
 
 /// What is left of an external declaration behind its specifiers and its first declarator.
-#[tactic(auto, unfolding(crate::specs::ReadBody::external_on))]
+#[tactic(auto, unfolding(c_syntax::specs::ReadBody::external_on))]
 fn external_on<'a>(
     alloc: Global,
     scope: &mut Scope,
@@ -137,7 +137,7 @@ fn external_by<'a>(
 }
 
 /// An external declaration whose parts are of a height at most.
-#[tactic(auto, unfolding(crate::specs::ReadBody::external_at))]
+#[tactic(auto, unfolding(c_syntax::specs::ReadBody::external_at))]
 fn external_at<'a>(
     alloc: Global,
     scope: &mut Scope,

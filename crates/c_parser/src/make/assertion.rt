@@ -1,11 +1,11 @@
 //! Static assertions of their parts.
 
 ghost use Rattle.std.specs.Prelude.{◌≡◌, IfOk};
-ghost use Rattle.c_parser.specs.View.{expr_of, literals_of};
-ghost use Rattle.c_parser.specs.ViewUnit.{assert_of};
+ghost use Rattle.c_syntax.specs.View.{expr_of, literals_of};
+ghost use Rattle.c_syntax.specs.ViewUnit.{assert_of};
 
-use crate::declaration::Assert;
-use crate::expression::{Expr, Literals};
+use c_syntax::declaration::Assert;
+use c_syntax::expression::{Expr, Literals};
 use critical_table::Pos;
 use std::alloc::{AllocError, Global};
 

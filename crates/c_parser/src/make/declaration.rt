@@ -1,12 +1,12 @@
 //! Declarators with their initializers.
 
 ghost use Rattle.std.specs.Prelude.{◌≡◌, Some, None, IfOk};
-ghost use Rattle.c_parser.specs.View.{declarator_of};
-ghost use Rattle.c_parser.specs.ViewUnit.{initializer_of, init_declarator_of};
+ghost use Rattle.c_syntax.specs.View.{declarator_of};
+ghost use Rattle.c_syntax.specs.ViewUnit.{initializer_of, init_declarator_of};
 
-use crate::declaration::InitDeclarator;
-use crate::declarator::Declarator;
-use crate::initializer::Initializer;
+use c_syntax::declaration::InitDeclarator;
+use c_syntax::declarator::Declarator;
+use c_syntax::initializer::Initializer;
 use std::alloc::{AllocError, Global};
 
 pub(crate) fn initialized(

@@ -1,13 +1,13 @@
 //! Declarators of their parts, and their heights.
 
 ghost use Rattle.std.specs.Prelude.{◌≡◌, ◌+◌, ◌^◌, ◌<◌, max, map, IfOk};
-ghost use Rattle.c_parser.specs.Tree as tree;
-ghost use Rattle.c_parser.specs.View.{expr_of, declarator_of, parameter_of, parameters};
+ghost use Rattle.c_syntax.specs.Tree as tree;
+ghost use Rattle.c_syntax.specs.View.{expr_of, declarator_of, parameter_of, parameters};
 
-use crate::declarator::{Declarator, Parameter};
-use crate::expression::Expr;
 use crate::part::{Part, Parts};
-use crate::specifier::Qualifier;
+use c_syntax::declarator::{Declarator, Parameter};
+use c_syntax::expression::Expr;
+use c_syntax::specifier::Qualifier;
 use critical_table::{Name, Pos};
 use std::alloc::{AllocError, Global};
 

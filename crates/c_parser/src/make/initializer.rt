@@ -1,13 +1,13 @@
 //! Initializers of their parts.
 
 ghost use Rattle.std.specs.Prelude.{◌≡◌, map, IfOk};
-ghost use Rattle.c_parser.specs.ReadBody.{items};
-ghost use Rattle.c_parser.specs.TreeUnit as tree;
-ghost use Rattle.c_parser.specs.View.{expr_of};
-ghost use Rattle.c_parser.specs.ViewUnit.{initializer_of, item_of};
+ghost use Rattle.c_syntax.specs.ReadBody.{items};
+ghost use Rattle.c_syntax.specs.TreeUnit as tree;
+ghost use Rattle.c_syntax.specs.View.{expr_of};
+ghost use Rattle.c_syntax.specs.ViewUnit.{initializer_of, item_of};
 
-use crate::expression::Expr;
-use crate::initializer::{Initializer, Item};
+use c_syntax::expression::Expr;
+use c_syntax::initializer::{Initializer, Item};
 use critical_table::{Name, Pos};
 use std::alloc::{AllocError, Global};
 

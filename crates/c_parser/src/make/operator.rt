@@ -1,12 +1,12 @@
 //! Nodes with operators, and their heights.
 
 ghost use Rattle.std.specs.Prelude.{◌≡◌, ◌+◌, ◌^◌, ◌<◌, max, map, IfOk};
-ghost use Rattle.c_parser.specs.Tree as tree;
-ghost use Rattle.c_parser.specs.View.{expr_of, exprs};
+ghost use Rattle.c_syntax.specs.Tree as tree;
+ghost use Rattle.c_syntax.specs.View.{expr_of, exprs};
 
-use crate::expression::Expr;
-use crate::operator::{Access, Infix, Postfix};
 use crate::part::{Part, Parts};
+use c_syntax::expression::Expr;
+use c_syntax::operator::{Access, Infix, Postfix};
 use critical_table::{Name, Pos};
 use std::alloc::{AllocError, Global};
 

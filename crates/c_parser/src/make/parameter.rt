@@ -1,13 +1,13 @@
 //! Type names, parameters and members, and their heights.
 
 ghost use Rattle.std.specs.Prelude.{◌≡◌, ◌+◌, ◌^◌, ◌<◌, max, map, IfOk};
-ghost use Rattle.c_parser.specs.Tree as tree;
-ghost use Rattle.c_parser.specs.View.{type_name_of, specifiers_of, declarator_of, declarators, parameter_of, member_of};
+ghost use Rattle.c_syntax.specs.Tree as tree;
+ghost use Rattle.c_syntax.specs.View.{type_name_of, specifiers_of, declarator_of, declarators, parameter_of, member_of};
 
-use crate::declarator::{Declarator, Parameter};
 use crate::part::{Part, Parts};
-use crate::specifier::{MemberDeclaration, Specifier};
-use crate::type_name::TypeName;
+use c_syntax::declarator::{Declarator, Parameter};
+use c_syntax::specifier::{MemberDeclaration, Specifier};
+use c_syntax::type_name::TypeName;
 use std::alloc::{AllocError, Global};
 
 pub(crate) fn type_name(

@@ -1,14 +1,14 @@
 //! Nodes of primary and unary expressions and of casts, and their heights.
 
 ghost use Rattle.std.specs.Prelude.{◌≡◌, ◌+◌, ◌∷◌, ◌^◌, ◌<◌, max, IfOk};
-ghost use Rattle.c_parser.specs.Tree as tree;
-ghost use Rattle.c_parser.specs.View.{expr_of, type_name_of, literals_of};
+ghost use Rattle.c_syntax.specs.Tree as tree;
+ghost use Rattle.c_syntax.specs.View.{expr_of, type_name_of, literals_of};
 
-use crate::expression::{Constant, Expr, Literals};
-use crate::operator::{Measure, Prefix};
 use crate::part::Part;
-use crate::type_name::TypeName;
 use c_lexer::Units;
+use c_syntax::expression::{Constant, Expr, Literals};
+use c_syntax::operator::{Measure, Prefix};
+use c_syntax::type_name::TypeName;
 use critical_table::{Name, Pos};
 use std::alloc::{AllocError, Global};
 

@@ -1,12 +1,12 @@
 //! Specifiers and enumerators (6.7.1 to 6.7.4, 6.7.8), and their heights.
 
 ghost use Rattle.std.specs.Prelude.{◌≡◌, ◌+◌, ◌^◌, ◌<◌, map, Some, None, IfOk};
-ghost use Rattle.c_parser.specs.Tree as tree;
-ghost use Rattle.c_parser.specs.View.{expr_of, specifier_of, member_of, members, enumerator_of, enumerators};
+ghost use Rattle.c_syntax.specs.Tree as tree;
+ghost use Rattle.c_syntax.specs.View.{expr_of, specifier_of, member_of, members, enumerator_of, enumerators};
 
-use crate::expression::Expr;
 use crate::part::{Part, Parts};
-use crate::specifier::{
+use c_syntax::expression::Expr;
+use c_syntax::specifier::{
     BasicWord, CompoundWord, Enumerator, MemberDeclaration, Qualifier, Specifier, Storage, Tag,
 };
 use critical_table::{Name, Pos};

@@ -2,13 +2,13 @@
 
 ghost use Rattle.std.specs.Prelude.{◌≡◌, map, IfOk};
 ghost use Rattle.std.specs.Option.{option_map};
-ghost use Rattle.c_parser.specs.ReadBody.{switch_items};
-ghost use Rattle.c_parser.specs.TreeUnit as tree;
-ghost use Rattle.c_parser.specs.View.{expr_of};
-ghost use Rattle.c_parser.specs.ViewUnit.{statement_of, block_item_of, block_items, switch_item_of, for_init_of};
+ghost use Rattle.c_syntax.specs.ReadBody.{switch_items};
+ghost use Rattle.c_syntax.specs.TreeUnit as tree;
+ghost use Rattle.c_syntax.specs.View.{expr_of};
+ghost use Rattle.c_syntax.specs.ViewUnit.{statement_of, block_item_of, block_items, switch_item_of, for_init_of};
 
-use crate::expression::Expr;
-use crate::statement::{BlockItem, ForInit, Statement, SwitchItem};
+use c_syntax::expression::Expr;
+use c_syntax::statement::{BlockItem, ForInit, Statement, SwitchItem};
 use critical_table::Pos;
 use std::alloc::{AllocError, Global};
 

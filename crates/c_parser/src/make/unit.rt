@@ -1,15 +1,15 @@
 //! External declarations.
 
 ghost use Rattle.std.specs.Prelude.{◌≡◌, map, IfOk};
-ghost use Rattle.c_parser.specs.TreeUnit as tree;
-ghost use Rattle.c_parser.specs.View.{specifiers_of, declarator_of};
-ghost use Rattle.c_parser.specs.ViewUnit.{declaration_of, assert_of, block_item_of, block_items, external_of};
+ghost use Rattle.c_syntax.specs.TreeUnit as tree;
+ghost use Rattle.c_syntax.specs.View.{specifiers_of, declarator_of};
+ghost use Rattle.c_syntax.specs.ViewUnit.{declaration_of, assert_of, block_item_of, block_items, external_of};
 
-use crate::declaration::{Assert, Declaration};
-use crate::declarator::Declarator;
-use crate::specifier::Specifier;
-use crate::statement::BlockItem;
-use crate::unit::{External, Function};
+use c_syntax::declaration::{Assert, Declaration};
+use c_syntax::declarator::Declarator;
+use c_syntax::specifier::Specifier;
+use c_syntax::statement::BlockItem;
+use c_syntax::unit::{External, Function};
 use std::alloc::{AllocError, Global};
 
 pub(crate) fn function(

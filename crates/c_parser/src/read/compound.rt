@@ -2,11 +2,11 @@
 
 ghost use Rattle.std.specs.Prelude.{◌≡◌, map, ◌+◌, ◌^◌, ◌≤◌, ◌<◌, ◌++◌, IfOk};
 ghost use Rattle.c_parser.specs.Agree.{Gives};
-ghost use Rattle.c_parser.specs.Height.{specifier_height, members_height};
-ghost use Rattle.c_parser.specs.ReadSpecifier as spec;
-ghost use Rattle.c_parser.specs.ReadSpecifier.{readers};
-ghost use Rattle.c_parser.specs.Scopes.{specifier_adds, members_add};
-ghost use Rattle.c_parser.specs.View.{specifier_of, member_of, members};
+ghost use Rattle.c_syntax.specs.Height.{specifier_height, members_height};
+ghost use Rattle.c_syntax.specs.ReadSpecifier as spec;
+ghost use Rattle.c_syntax.specs.ReadSpecifier.{readers};
+ghost use Rattle.c_syntax.specs.Scopes.{specifier_adds, members_add};
+ghost use Rattle.c_syntax.specs.View.{specifier_of, member_of, members};
 
 use crate::begins::begins_type;
 use crate::fault::Fault;
@@ -15,14 +15,14 @@ use crate::next::{expect, is_mark, tail};
 use crate::part::{Part, Parts};
 use crate::read::height::member;
 use crate::scope::Scope;
-use crate::specifier::{CompoundWord, MemberDeclaration, Specifier, Tag};
 use c_lexer::{Body, Punct, Token};
+use c_syntax::specifier::{CompoundWord, MemberDeclaration, Specifier, Tag};
 use critical_table::{Name, Pos};
 use std::alloc::Global;
 
 /// What stands behind `struct` or `union`, whose place this is.
 #[cycle(reading)]
-#[tactic(auto, unfolding(crate::specs::ReadSpecifier::compound))]
+#[tactic(auto, unfolding(c_syntax::specs::ReadSpecifier::compound))]
 pub(crate) fn compound<'a>(
     alloc: Global,
     scope: &mut Scope,
@@ -66,7 +66,7 @@ pub(crate) fn compound<'a>(
 
 /// A tag was read.
 #[cycle(reading)]
-#[tactic(auto, unfolding(crate::specs::ReadSpecifier::compound_tag))]
+#[tactic(auto, unfolding(c_syntax::specs::ReadSpecifier::compound_tag))]
 fn compound_tag<'a>(
     alloc: Global,
     scope: &mut Scope,

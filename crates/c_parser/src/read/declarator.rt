@@ -2,18 +2,16 @@
 
 ghost use Rattle.std.specs.Prelude.{◌≡◌, ◌+◌, ◌^◌, ◌≤◌, ◌<◌, ◌++◌, IfOk};
 ghost use Rattle.c_parser.specs.Agree.{Gives};
-ghost use Rattle.c_parser.specs.Height.{declarator_height};
-ghost use Rattle.c_parser.specs.Reader.{seen, skip};
-ghost use Rattle.c_parser.specs.ReadDeclarator as spec;
-ghost use Rattle.c_parser.specs.ReadSpecifier.{readers};
-ghost use Rattle.c_parser.specs.Scopes.{declarator_adds};
-ghost use Rattle.c_parser.specs.Tree.{Omitted};
-ghost use Rattle.c_parser.specs.View.{declarator_of};
+ghost use Rattle.c_syntax.specs.Height.{declarator_height};
+ghost use Rattle.c_syntax.specs.Reader.{seen, skip};
+ghost use Rattle.c_syntax.specs.ReadDeclarator as spec;
+ghost use Rattle.c_syntax.specs.ReadSpecifier.{readers};
+ghost use Rattle.c_syntax.specs.Scopes.{declarator_adds};
+ghost use Rattle.c_syntax.specs.Tree.{Omitted};
+ghost use Rattle.c_syntax.specs.View.{declarator_of};
 
 use crate::begins::begins_type;
-use crate::declarator::Declarator;
 use crate::fault::Fault;
-use crate::form::Form;
 use crate::make::declarator as make;
 use crate::next::{expect, is_mark, tail};
 use crate::part::{Part, Parts};
@@ -23,6 +21,8 @@ use crate::read::qualifier::qualifiers;
 use crate::read::suffix::{suffix_on, suffixes};
 use crate::scope::Scope;
 use c_lexer::{Body, Punct, Token};
+use c_syntax::declarator::Declarator;
+use c_syntax::form::Form;
 use critical_table::{Name, Pos};
 use std::alloc::Global;
 
@@ -75,7 +75,7 @@ fn omitted<'a>(
 }
 
 /// A declarator where no height is left.
-#[tactic(auto, unfolding(crate::specs::ReadDeclarator::no_declarator))]
+#[tactic(auto, unfolding(c_syntax::specs::ReadDeclarator::no_declarator))]
 pub(crate) fn no_declarator<'a>(
     alloc: Global,
     form: Form,
@@ -92,7 +92,7 @@ pub(crate) fn no_declarator<'a>(
 
 /// A declarator of the form, by its next token.
 #[cycle(reading)]
-#[tactic(auto, unfolding(crate::specs::ReadDeclarator::declarator_at))]
+#[tactic(auto, unfolding(c_syntax::specs::ReadDeclarator::declarator_at))]
 pub(crate) fn declarator_at<'a>(
     alloc: Global,
     scope: &mut Scope,
@@ -166,7 +166,7 @@ fn starred<'a>(
 
 /// A pointer, behind its asterisk (6.7.6.1).
 #[cycle(reading)]
-#[tactic(auto, unfolding(crate::specs::ReadDeclarator::pointer))]
+#[tactic(auto, unfolding(c_syntax::specs::ReadDeclarator::pointer))]
 fn pointer<'a>(
     alloc: Global,
     scope: &mut Scope,
@@ -212,7 +212,7 @@ fn parenthesized<'a>(
 
 /// Behind an opening parenthesis, where the identifier may be omitted.
 #[cycle(reading)]
-#[tactic(auto, unfolding(crate::specs::ReadDeclarator::opened))]
+#[tactic(auto, unfolding(c_syntax::specs::ReadDeclarator::opened))]
 fn opened<'a>(
     alloc: Global,
     scope: &mut Scope,
@@ -247,7 +247,7 @@ fn opened<'a>(
 
 /// A parameter list of an omitted identifier, behind its opening parenthesis.
 #[cycle(reading)]
-#[tactic(auto, unfolding(crate::specs::ReadDeclarator::omitted_list))]
+#[tactic(auto, unfolding(c_syntax::specs::ReadDeclarator::omitted_list))]
 fn omitted_list<'a>(
     alloc: Global,
     scope: &mut Scope,
@@ -271,7 +271,7 @@ fn omitted_list<'a>(
 
 /// A declarator in parentheses, behind the opening one.
 #[cycle(reading)]
-#[tactic(auto, unfolding(crate::specs::ReadDeclarator::nested))]
+#[tactic(auto, unfolding(c_syntax::specs::ReadDeclarator::nested))]
 fn nested<'a>(
     alloc: Global,
     scope: &mut Scope,

@@ -1,14 +1,11 @@
 ghost use Rattle.std.specs.Prelude.{◌≡◌, ◌^◌, ◌≤◌, ◌<◌, ◌++◌, IfOk};
 ghost use Rattle.c_parser.specs.Agree.{Gives};
-ghost use Rattle.c_parser.specs.Height.{height, type_name_height, declarator_height, parameter_height, member_height};
-ghost use Rattle.c_parser.specs.ReadSpecifier.{readers};
-ghost use Rattle.c_parser.specs.Scopes.{expr_adds, type_name_adds, declarator_adds, parameter_adds, member_adds};
-ghost use Rattle.c_parser.specs.View.{expr_of, type_name_of, declarator_of, parameter_of, member_of};
+ghost use Rattle.c_syntax.specs.Height.{height, type_name_height, declarator_height, parameter_height, member_height};
+ghost use Rattle.c_syntax.specs.ReadSpecifier.{readers};
+ghost use Rattle.c_syntax.specs.Scopes.{expr_adds, type_name_adds, declarator_adds, parameter_adds, member_adds};
+ghost use Rattle.c_syntax.specs.View.{expr_of, type_name_of, declarator_of, parameter_of, member_of};
 
-use crate::declarator::{Declarator, Parameter};
-use crate::expression::Expr;
 use crate::fault::Fault;
-use crate::form::Form;
 use crate::part::{Part, Parts};
 use crate::read::declarator::{declarator_at, no_declarator};
 use crate::read::infix::expr_at;
@@ -17,9 +14,12 @@ use crate::read::parameter::parameter_at;
 use crate::read::type_name::type_name_at;
 use crate::read::unary::grouped_at;
 use crate::scope::Scope;
-use crate::specifier::{MemberDeclaration, Specifier};
-use crate::type_name::TypeName;
 use c_lexer::Token;
+use c_syntax::declarator::{Declarator, Parameter};
+use c_syntax::expression::Expr;
+use c_syntax::form::Form;
+use c_syntax::specifier::{MemberDeclaration, Specifier};
+use c_syntax::type_name::TypeName;
 use std::alloc::{AllocError, Global};
 
 /// An expression of a level (6.5).

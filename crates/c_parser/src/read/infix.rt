@@ -3,28 +3,28 @@
 ghost use Rattle.std.specs.Prelude.{◌≡◌, ◌+◌, ◌^◌, ◌≤◌, ◌<◌, ◌++◌, Some, IfOk};
 ghost use Rattle.c_lexer.specs.declared.token.Body.TheVariants as bodies;
 ghost use Rattle.c_parser.specs.Agree.{Gives};
-ghost use Rattle.c_parser.specs.Height.{height};
-ghost use Rattle.c_parser.specs.Reader as reader;
-ghost use Rattle.c_parser.specs.ReadExpr as spec;
-ghost use Rattle.c_parser.specs.ReadToken as next_token;
-ghost use Rattle.c_parser.specs.ReadSpecifier.{readers};
-ghost use Rattle.c_parser.specs.Scopes as names;
-ghost use Rattle.c_parser.specs.Scopes.{expr_adds};
-ghost use Rattle.c_parser.specs.View.{expr_of};
+ghost use Rattle.c_syntax.specs.Height.{height};
+ghost use Rattle.c_syntax.specs.Reader as reader;
+ghost use Rattle.c_syntax.specs.ReadExpr as spec;
+ghost use Rattle.c_syntax.specs.ReadToken as next_token;
+ghost use Rattle.c_syntax.specs.ReadSpecifier.{readers};
+ghost use Rattle.c_syntax.specs.Scopes as names;
+ghost use Rattle.c_syntax.specs.Scopes.{expr_adds};
+ghost use Rattle.c_syntax.specs.View.{expr_of};
 
-use crate::expression::Expr;
 use crate::fault::Fault;
 use crate::level::{
     CONDITIONAL, EXPRESSION, LOGICAL_OR, infix_level, left_level, own_level, right_level,
 };
 use crate::make::operator;
 use crate::next::{expect, is_mark, place, tail};
-use crate::operator::{Arithmetic, Comparison, Infix};
 use crate::part::Part;
 use crate::read::height::expr;
 use crate::read::unary::unary_at;
 use crate::scope::Scope;
 use c_lexer::{Body, Punct, Token};
+use c_syntax::expression::Expr;
+use c_syntax::operator::{Arithmetic, Comparison, Infix};
 use critical_table::Pos;
 use std::alloc::Global;
 
@@ -100,7 +100,7 @@ fn goes_infix(level: u8, left: &Part<Expr>, tokens: &[Token]) -> bool
 
 /// An expression of a level.
 #[cycle(reading)]
-#[tactic(auto, unfolding(crate::specs::ReadExpr::expr_at))]
+#[tactic(auto, unfolding(c_syntax::specs::ReadExpr::expr_at))]
 pub(crate) fn expr_at<'a>(
     alloc: Global,
     scope: &mut Scope,
@@ -148,7 +148,7 @@ fn infixes<'a>(
 
 /// The operator that follows, and its other operands.
 #[cycle(reading)]
-#[tactic(auto, unfolding(crate::specs::ReadExpr::infix_on, crate::specs::ReadExpr::between_on))]
+#[tactic(auto, unfolding(c_syntax::specs::ReadExpr::infix_on, c_syntax::specs::ReadExpr::between_on))]
 fn infix_on<'a>(
     alloc: Global,
     scope: &mut Scope,
@@ -194,7 +194,7 @@ fn between_on<'a>(
 
 /// The second and third operand of the conditional operator (6.5.15).
 #[cycle(reading)]
-#[tactic(auto, unfolding(crate::specs::ReadExpr::cond_on))]
+#[tactic(auto, unfolding(c_syntax::specs::ReadExpr::cond_on))]
 fn cond_on<'a>(
     alloc: Global,
     scope: &mut Scope,

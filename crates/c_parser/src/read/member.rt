@@ -2,29 +2,29 @@
 
 ghost use Rattle.std.specs.Prelude.{◌≡◌, false, map, ◌+◌, ◌^◌, ◌≤◌, ◌<◌, ◌++◌, IfOk};
 ghost use Rattle.c_parser.specs.Agree.{Gives};
-ghost use Rattle.c_parser.specs.Height.{specifiers_height, declarators_height, member_height};
-ghost use Rattle.c_parser.specs.ReadDeclarator as spec;
-ghost use Rattle.c_parser.specs.ReadSpecifier.{readers};
-ghost use Rattle.c_parser.specs.Scopes as names;
-ghost use Rattle.c_parser.specs.Scopes.{specifiers_add, declarators_add, member_adds};
-ghost use Rattle.c_parser.specs.View.{specifiers_of, declarator_of, declarators, member_of};
+ghost use Rattle.c_syntax.specs.Height.{specifiers_height, declarators_height, member_height};
+ghost use Rattle.c_syntax.specs.ReadDeclarator as spec;
+ghost use Rattle.c_syntax.specs.ReadSpecifier.{readers};
+ghost use Rattle.c_syntax.specs.Scopes as names;
+ghost use Rattle.c_syntax.specs.Scopes.{specifiers_add, declarators_add, member_adds};
+ghost use Rattle.c_syntax.specs.View.{specifiers_of, declarator_of, declarators, member_of};
 
-use crate::declarator::Declarator;
 use crate::fault::Fault;
-use crate::form::Form;
 use crate::make::parameter;
 use crate::next::{expect, is_mark, tail};
 use crate::part::{Part, Parts};
 use crate::read::height::declarator;
 use crate::read::specifier::specifiers;
 use crate::scope::Scope;
-use crate::specifier::{MemberDeclaration, Specifier};
 use c_lexer::{Body, Punct, Token};
+use c_syntax::declarator::Declarator;
+use c_syntax::form::Form;
+use c_syntax::specifier::{MemberDeclaration, Specifier};
 use std::alloc::Global;
 
 /// A member declaration (6.7.2.1).
 #[cycle(reading)]
-#[tactic(auto, unfolding(crate::specs::ReadDeclarator::member_at))]
+#[tactic(auto, unfolding(c_syntax::specs::ReadDeclarator::member_at))]
 pub(crate) fn member_at<'a>(
     alloc: Global,
     scope: &mut Scope,
@@ -42,7 +42,7 @@ pub(crate) fn member_at<'a>(
 
 /// What is left of a member declaration behind its specifiers.
 #[cycle(reading)]
-#[tactic(auto, unfolding(crate::specs::ReadDeclarator::member_on))]
+#[tactic(auto, unfolding(c_syntax::specs::ReadDeclarator::member_on))]
 fn member_on<'a>(
     alloc: Global,
     scope: &mut Scope,

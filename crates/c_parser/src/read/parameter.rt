@@ -2,27 +2,27 @@
 
 ghost use Rattle.std.specs.Prelude.{◌≡◌, ◌+◌, ◌^◌, ◌≤◌, ◌<◌, ◌++◌, IfOk};
 ghost use Rattle.c_parser.specs.Agree.{Gives};
-ghost use Rattle.c_parser.specs.Height.{parameter_height};
-ghost use Rattle.c_parser.specs.ReadDeclarator as spec;
-ghost use Rattle.c_parser.specs.ReadSpecifier.{readers};
-ghost use Rattle.c_parser.specs.Scopes.{parameter_adds};
-ghost use Rattle.c_parser.specs.View.{parameter_of};
+ghost use Rattle.c_syntax.specs.Height.{parameter_height};
+ghost use Rattle.c_syntax.specs.ReadDeclarator as spec;
+ghost use Rattle.c_syntax.specs.ReadSpecifier.{readers};
+ghost use Rattle.c_syntax.specs.Scopes.{parameter_adds};
+ghost use Rattle.c_syntax.specs.View.{parameter_of};
 
-use crate::declarator::Parameter;
 use crate::declared::{declare_own_name, names_types};
 use crate::fault::Fault;
-use crate::form::Form;
 use crate::make::parameter;
 use crate::part::Part;
 use crate::read::height::declarator;
 use crate::read::specifier::specifiers;
 use crate::scope::Scope;
 use c_lexer::Token;
+use c_syntax::declarator::Parameter;
+use c_syntax::form::Form;
 use std::alloc::Global;
 
 /// A parameter declaration (6.7.6.3), whose name is in scope behind it.
 #[cycle(reading)]
-#[tactic(auto, unfolding(crate::specs::ReadDeclarator::parameter_at))]
+#[tactic(auto, unfolding(c_syntax::specs::ReadDeclarator::parameter_at))]
 pub(crate) fn parameter_at<'a>(
     alloc: Global,
     scope: &mut Scope,

@@ -2,19 +2,19 @@
 
 ghost use Rattle.std.specs.Prelude.{◌≡◌, map, ◌^◌, ◌≤◌, ◌<◌, ◌++◌, IfOk};
 ghost use Rattle.c_parser.specs.Agree.{Gives};
-ghost use Rattle.c_parser.specs.Height.{parameters_height};
-ghost use Rattle.c_parser.specs.ReadDeclarator as spec;
-ghost use Rattle.c_parser.specs.ReadSpecifier.{readers};
-ghost use Rattle.c_parser.specs.Scopes.{parameters_add};
-ghost use Rattle.c_parser.specs.View.{parameter_of, parameters};
+ghost use Rattle.c_syntax.specs.Height.{parameters_height};
+ghost use Rattle.c_syntax.specs.ReadDeclarator as spec;
+ghost use Rattle.c_syntax.specs.ReadSpecifier.{readers};
+ghost use Rattle.c_syntax.specs.Scopes.{parameters_add};
+ghost use Rattle.c_syntax.specs.View.{parameter_of, parameters};
 
-use crate::declarator::Parameter;
 use crate::fault::Fault;
 use crate::next::{expect, is_mark, tail};
 use crate::part::Parts;
 use crate::read::height::parameter;
 use crate::scope::Scope;
 use c_lexer::{Body, Punct, Token};
+use c_syntax::declarator::Parameter;
 use std::alloc::Global;
 
 /// Parameters, and whether `, ...` ends them.
@@ -26,7 +26,7 @@ pub(crate) struct ParameterList {
 
 /// Behind the opening parenthesis.
 #[cycle(reading)]
-#[tactic(auto, unfolding(crate::specs::ReadDeclarator::parameters_at))]
+#[tactic(auto, unfolding(c_syntax::specs::ReadDeclarator::parameters_at))]
 pub(crate) fn parameters_at<'a>(
     alloc: Global,
     scope: &mut Scope,

@@ -1,8 +1,8 @@
 ghost use Rattle.std.specs.Prelude.{◌≡◌, true, false, IfSome, IfNone};
 ghost use Rattle.c_parser.specs.Agree.{Gives};
-ghost use Rattle.c_parser.specs.ReadExpr as spec;
-ghost use Rattle.c_parser.specs.Reader as reader;
-ghost use Rattle.c_parser.specs.ReadToken.{is_literal};
+ghost use Rattle.c_syntax.specs.ReadExpr as spec;
+ghost use Rattle.c_syntax.specs.Reader as reader;
+ghost use Rattle.c_syntax.specs.ReadToken.{is_literal};
 
 use crate::fault::Fault;
 use crate::next::tail;
@@ -10,7 +10,7 @@ use c_lexer::{Body, Token, Units};
 use std::alloc::Global;
 
 /// The units of the string literal of this width that stands next.
-#[tactic(auto, unfolding(crate::specs::ReadExpr::piece))]
+#[tactic(auto, unfolding(c_syntax::specs::ReadExpr::piece))]
 fn literal(tokens: &[Token], wide: bool) -> Option<&Units>
     ensures none { IfNone result (is_literal wide (reader.seen tokens.now) ≡ false) }
     ensures here { IfSome result (λ units. is_literal wide (reader.seen tokens.now) ≡ true) }

@@ -2,25 +2,25 @@
 
 ghost use Rattle.std.specs.Prelude.{◌≡◌, false, map, ◌+◌, ◌^◌, ◌≤◌, ◌<◌, ◌++◌, IfOk};
 ghost use Rattle.c_parser.specs.Agree.{Gives};
-ghost use Rattle.c_parser.specs.Height.{height, exprs_height};
-ghost use Rattle.c_parser.specs.Reader.{seen};
-ghost use Rattle.c_parser.specs.ReadExpr as spec;
-ghost use Rattle.c_parser.specs.ReadSpecifier.{readers};
-ghost use Rattle.c_parser.specs.Scopes as names;
-ghost use Rattle.c_parser.specs.Scopes.{expr_adds, exprs_add};
-ghost use Rattle.c_parser.specs.Tree as trees;
-ghost use Rattle.c_parser.specs.View.{expr_of, exprs};
+ghost use Rattle.c_syntax.specs.Height.{height, exprs_height};
+ghost use Rattle.c_syntax.specs.Reader.{seen};
+ghost use Rattle.c_syntax.specs.ReadExpr as spec;
+ghost use Rattle.c_syntax.specs.ReadSpecifier.{readers};
+ghost use Rattle.c_syntax.specs.Scopes as names;
+ghost use Rattle.c_syntax.specs.Scopes.{expr_adds, exprs_add};
+ghost use Rattle.c_syntax.specs.Tree as trees;
+ghost use Rattle.c_syntax.specs.View.{expr_of, exprs};
 
-use crate::expression::Expr;
 use crate::fault::Fault;
 use crate::level::{ASSIGNMENT, EXPRESSION};
 use crate::make::operator;
 use crate::next::{expect, is_mark, place, tail};
-use crate::operator::{Access, Postfix};
 use crate::part::{Part, Parts};
 use crate::read::height::expr;
 use crate::scope::Scope;
 use c_lexer::{Body, Punct, Token};
+use c_syntax::expression::Expr;
+use c_syntax::operator::{Access, Postfix};
 use critical_table::Name;
 use std::alloc::Global;
 
@@ -77,7 +77,7 @@ pub(crate) fn postfixes<'a>(
 
 /// The postfix operator that follows.
 #[cycle(reading)]
-#[tactic(auto, unfolding(crate::specs::ReadExpr::postfix_on, crate::specs::ReadExpr::index, crate::specs::ReadExpr::call))]
+#[tactic(auto, unfolding(c_syntax::specs::ReadExpr::postfix_on, c_syntax::specs::ReadExpr::index, c_syntax::specs::ReadExpr::call))]
 fn postfix_on<'a>(
     alloc: Global,
     scope: &mut Scope,
@@ -184,7 +184,7 @@ fn call<'a>(
 
 /// What stands behind the opening parenthesis of a call.
 #[cycle(reading)]
-#[tactic(auto, unfolding(crate::specs::ReadExpr::arguments))]
+#[tactic(auto, unfolding(c_syntax::specs::ReadExpr::arguments))]
 fn arguments<'a>(
     alloc: Global,
     scope: &mut Scope,
@@ -213,7 +213,7 @@ fn arguments<'a>(
 }
 
 /// A member by its name (6.5.2.3).
-#[tactic(auto, unfolding(crate::specs::ReadExpr::access_name))]
+#[tactic(auto, unfolding(c_syntax::specs::ReadExpr::access_name))]
 fn access_name(
     alloc: Global,
     left: Part<Expr>,
@@ -243,7 +243,7 @@ fn access_name(
 }
 
 /// `++` or `--` behind its operand (6.5.2.4).
-#[tactic(auto, unfolding(crate::specs::ReadExpr::step_by_one))]
+#[tactic(auto, unfolding(c_syntax::specs::ReadExpr::step_by_one))]
 fn step_by_one(
     alloc: Global,
     left: Part<Expr>,

@@ -1,13 +1,13 @@
 //! Type qualifiers (6.7.3).
 
 ghost use Rattle.c_parser.specs.Agree.{Gives};
-ghost use Rattle.c_parser.specs.ReadDeclarator as spec;
-ghost use Rattle.c_parser.specs.Scopes as names;
+ghost use Rattle.c_syntax.specs.ReadDeclarator as spec;
+ghost use Rattle.c_syntax.specs.Scopes as names;
 
 use crate::fault::Fault;
 use crate::next::{qualifier_of, tail};
-use crate::specifier::Qualifier;
 use c_lexer::Token;
+use c_syntax::specifier::Qualifier;
 use std::alloc::Global;
 
 /// All qualifiers that follow.

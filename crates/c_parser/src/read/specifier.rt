@@ -2,13 +2,13 @@
 
 ghost use Rattle.std.specs.Prelude.{◌≡◌, [], ◌+◌, ◌^◌, ◌≤◌, ◌<◌, ◌++◌, IfOk};
 ghost use Rattle.c_parser.specs.Agree.{Gives};
-ghost use Rattle.c_parser.specs.Height.{specifier_height, specifiers_height};
-ghost use Rattle.c_parser.specs.Reader.{seen};
-ghost use Rattle.c_parser.specs.Reader as reader;
-ghost use Rattle.c_parser.specs.ReadSpecifier as spec;
-ghost use Rattle.c_parser.specs.ReadSpecifier.{readers};
-ghost use Rattle.c_parser.specs.Scopes.{specifier_adds, specifiers_add};
-ghost use Rattle.c_parser.specs.View.{specifier_of, specifiers_of};
+ghost use Rattle.c_syntax.specs.Height.{specifier_height, specifiers_height};
+ghost use Rattle.c_syntax.specs.Reader.{seen};
+ghost use Rattle.c_syntax.specs.Reader as reader;
+ghost use Rattle.c_syntax.specs.ReadSpecifier as spec;
+ghost use Rattle.c_syntax.specs.ReadSpecifier.{readers};
+ghost use Rattle.c_syntax.specs.Scopes.{specifier_adds, specifiers_add};
+ghost use Rattle.c_syntax.specs.View.{specifier_of, specifiers_of};
 
 use crate::fault::Fault;
 use crate::make::specifier;
@@ -18,17 +18,10 @@ use crate::read::compound::compound;
 use crate::read::enumeration::enumeration;
 use crate::read::word::{basic_of, storage_of, word_at};
 use crate::scope::Scope;
-use crate::specifier::{CompoundWord, Specifier};
 use c_lexer::{Body, Token, Word};
+use c_syntax::come::Come;
+use c_syntax::specifier::{CompoundWord, Specifier};
 use std::alloc::Global;
-
-/// Whether a type has come: none, basic words, or another that stands alone (6.7.2p2).
-#[derive(Clone, Copy)]
-enum Come {
-    Nothing,
-    Basic,
-    Other,
-}
 
 /// Whether no type has come.
 fn is_nothing(come: Come) -> bool

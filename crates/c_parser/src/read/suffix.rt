@@ -2,20 +2,18 @@
 
 ghost use Rattle.std.specs.Prelude.{◌≡◌, ◌+◌, ◌^◌, ◌≤◌, ◌<◌, ◌++◌, IfOk};
 ghost use Rattle.c_parser.specs.Agree.{Gives};
-ghost use Rattle.c_parser.specs.Height.{height, declarator_height};
-ghost use Rattle.c_parser.specs.Levels.{conditional};
-ghost use Rattle.c_parser.specs.Reader.{seen};
-ghost use Rattle.c_parser.specs.ReadDeclarator as spec;
-ghost use Rattle.c_parser.specs.ReadExpr.{wanted};
-ghost use Rattle.c_parser.specs.ReadSpecifier.{readers};
-ghost use Rattle.c_parser.specs.Scopes as names;
-ghost use Rattle.c_parser.specs.Scopes.{expr_adds, declarator_adds};
-ghost use Rattle.c_parser.specs.Tree as trees;
-ghost use Rattle.c_parser.specs.View.{expr_of, declarator_of};
+ghost use Rattle.c_syntax.specs.Height.{height, declarator_height};
+ghost use Rattle.c_syntax.specs.Levels.{conditional};
+ghost use Rattle.c_syntax.specs.Reader.{seen};
+ghost use Rattle.c_syntax.specs.ReadDeclarator as spec;
+ghost use Rattle.c_syntax.specs.ReadExpr.{wanted};
+ghost use Rattle.c_syntax.specs.ReadSpecifier.{readers};
+ghost use Rattle.c_syntax.specs.Scopes as names;
+ghost use Rattle.c_syntax.specs.Scopes.{expr_adds, declarator_adds};
+ghost use Rattle.c_syntax.specs.Tree as trees;
+ghost use Rattle.c_syntax.specs.View.{expr_of, declarator_of};
 
 use crate::begins::begins_expr;
-use crate::declarator::Declarator;
-use crate::expression::Expr;
 use crate::fault::Fault;
 use crate::level::CONDITIONAL;
 use crate::make::declarator;
@@ -25,6 +23,8 @@ use crate::read::height::expr;
 use crate::read::parameters::parameters_at;
 use crate::scope::Scope;
 use c_lexer::{Body, Punct, Token};
+use c_syntax::declarator::Declarator;
+use c_syntax::expression::Expr;
 use std::alloc::Global;
 
 /// Whether an array or function declarator follows.
@@ -74,7 +74,7 @@ pub(crate) fn suffixes<'a>(
 
 /// The next array or function.
 #[cycle(reading)]
-#[tactic(auto, unfolding(crate::specs::ReadDeclarator::suffix_on, crate::specs::ReadDeclarator::array_on, crate::specs::ReadDeclarator::function_on))]
+#[tactic(auto, unfolding(c_syntax::specs::ReadDeclarator::suffix_on, c_syntax::specs::ReadDeclarator::array_on, c_syntax::specs::ReadDeclarator::function_on))]
 pub(crate) fn suffix_on<'a>(
     alloc: Global,
     scope: &mut Scope,
@@ -146,7 +146,7 @@ fn array_on<'a>(
 
 /// The length of an array, a constant expression (6.6).
 #[cycle(reading)]
-#[tactic(auto, unfolding(crate::specs::ReadExpr::wanted))]
+#[tactic(auto, unfolding(c_syntax::specs::ReadExpr::wanted))]
 fn length<'a>(
     alloc: Global,
     scope: &mut Scope,

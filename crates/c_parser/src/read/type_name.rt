@@ -2,26 +2,26 @@
 
 ghost use Rattle.std.specs.Prelude.{◌≡◌, ◌+◌, ◌^◌, ◌≤◌, ◌<◌, ◌++◌, IfOk};
 ghost use Rattle.c_parser.specs.Agree.{Gives};
-ghost use Rattle.c_parser.specs.Height.{type_name_height};
-ghost use Rattle.c_parser.specs.ReadDeclarator as spec;
-ghost use Rattle.c_parser.specs.ReadSpecifier.{readers};
-ghost use Rattle.c_parser.specs.Scopes.{type_name_adds};
-ghost use Rattle.c_parser.specs.View.{type_name_of};
+ghost use Rattle.c_syntax.specs.Height.{type_name_height};
+ghost use Rattle.c_syntax.specs.ReadDeclarator as spec;
+ghost use Rattle.c_syntax.specs.ReadSpecifier.{readers};
+ghost use Rattle.c_syntax.specs.Scopes.{type_name_adds};
+ghost use Rattle.c_syntax.specs.View.{type_name_of};
 
 use crate::fault::Fault;
-use crate::form::Form;
 use crate::make::parameter;
 use crate::part::Part;
 use crate::read::height::declarator;
 use crate::read::specifier::specifiers;
 use crate::scope::Scope;
-use crate::type_name::TypeName;
 use c_lexer::Token;
+use c_syntax::form::Form;
+use c_syntax::type_name::TypeName;
 use std::alloc::Global;
 
 /// A type name (6.7.7).
 #[cycle(reading)]
-#[tactic(auto, unfolding(crate::specs::ReadDeclarator::type_name_at))]
+#[tactic(auto, unfolding(c_syntax::specs::ReadDeclarator::type_name_at))]
 pub(crate) fn type_name_at<'a>(
     alloc: Global,
     scope: &mut Scope,

@@ -2,34 +2,34 @@
 
 ghost use Rattle.std.specs.Prelude.{◌≡◌, ◌+◌, ◌^◌, ◌≤◌, ◌<◌, ◌++◌, IfOk};
 ghost use Rattle.c_parser.specs.Agree.{Gives};
-ghost use Rattle.c_parser.specs.Height.{height};
-ghost use Rattle.c_parser.specs.ReadExpr as spec;
-ghost use Rattle.c_parser.specs.ReadSpecifier.{readers};
-ghost use Rattle.c_parser.specs.ReadToken.{prefix_of};
-ghost use Rattle.c_parser.specs.Reader.{place, seen};
-ghost use Rattle.c_parser.specs.Scopes.{expr_adds};
-ghost use Rattle.c_parser.specs.Tree as tree;
-ghost use Rattle.c_parser.specs.View.{expr_of};
+ghost use Rattle.c_syntax.specs.Height.{height};
+ghost use Rattle.c_syntax.specs.ReadExpr as spec;
+ghost use Rattle.c_syntax.specs.ReadSpecifier.{readers};
+ghost use Rattle.c_syntax.specs.ReadToken.{prefix_of};
+ghost use Rattle.c_syntax.specs.Reader.{place, seen};
+ghost use Rattle.c_syntax.specs.Scopes.{expr_adds};
+ghost use Rattle.c_syntax.specs.Tree as tree;
+ghost use Rattle.c_syntax.specs.View.{expr_of};
 
 use crate::begins::{begins_expr, begins_type, prefix_of};
-use crate::expression::{Constant, Expr};
 use crate::fault::Fault;
 use crate::level::{CAST, EXPRESSION, UNARY, operand_level};
 use crate::make::primary;
 use crate::next::{expect, is_mark, place, tail};
-use crate::operator::{Measure, Prefix};
 use crate::part::Part;
 use crate::read::height::{expr, grouped, type_name};
 use crate::read::pieces::pieces;
 use crate::read::postfix::postfixes;
 use crate::scope::Scope;
 use c_lexer::{Body, Punct, Token, Units, Word};
+use c_syntax::expression::{Constant, Expr};
+use c_syntax::operator::{Measure, Prefix};
 use critical_table::{Name, Pos};
 use std::alloc::Global;
 
 /// An expression in parentheses, behind the first of them.
 #[cycle(reading)]
-#[tactic(auto, unfolding(crate::specs::ReadExpr::grouped, crate::specs::ReadExpr::wanted))]
+#[tactic(auto, unfolding(c_syntax::specs::ReadExpr::grouped, c_syntax::specs::ReadExpr::wanted))]
 pub(crate) fn grouped_at<'a>(
     alloc: Global,
     scope: &mut Scope,
@@ -55,7 +55,7 @@ pub(crate) fn grouped_at<'a>(
 
 /// A cast, behind its first parenthesis, which stands at this place.
 #[cycle(reading)]
-#[tactic(auto, unfolding(crate::specs::ReadExpr::cast_on))]
+#[tactic(auto, unfolding(c_syntax::specs::ReadExpr::cast_on))]
 fn cast_on<'a>(
     alloc: Global,
     scope: &mut Scope,
@@ -77,7 +77,7 @@ fn cast_on<'a>(
 
 /// Behind a parenthesis that stands at this place: a cast, where one may stand, or an expression in parentheses.
 #[cycle(reading)]
-#[tactic(auto, unfolding(crate::specs::ReadExpr::inside))]
+#[tactic(auto, unfolding(c_syntax::specs::ReadExpr::inside))]
 fn inside<'a>(
     alloc: Global,
     scope: &mut Scope,
@@ -102,7 +102,7 @@ fn inside<'a>(
 
 /// A type name and the parenthesis behind it, for an operator at this place.
 #[cycle(reading)]
-#[tactic(auto, unfolding(crate::specs::ReadExpr::measured))]
+#[tactic(auto, unfolding(c_syntax::specs::ReadExpr::measured))]
 fn measured<'a>(
     alloc: Global,
     scope: &mut Scope,
@@ -124,7 +124,7 @@ fn measured<'a>(
 
 /// Behind `sizeof`, at this place, and a parenthesis: a type name, or an operand that begins with the parenthesis.
 #[cycle(reading)]
-#[tactic(auto, unfolding(crate::specs::ReadExpr::sized))]
+#[tactic(auto, unfolding(c_syntax::specs::ReadExpr::sized))]
 fn sized<'a>(
     alloc: Global,
     scope: &mut Scope,
@@ -147,7 +147,7 @@ fn sized<'a>(
 
 /// Behind `sizeof`, which stands at this place.
 #[cycle(reading)]
-#[tactic(auto, unfolding(crate::specs::ReadExpr::size))]
+#[tactic(auto, unfolding(c_syntax::specs::ReadExpr::size))]
 fn size<'a>(
     alloc: Global,
     scope: &mut Scope,
@@ -170,7 +170,7 @@ fn size<'a>(
 
 /// Behind `_Alignof`, which stands at this place.
 #[cycle(reading)]
-#[tactic(auto, unfolding(crate::specs::ReadExpr::alignment))]
+#[tactic(auto, unfolding(c_syntax::specs::ReadExpr::alignment))]
 fn alignment<'a>(
     alloc: Global,
     scope: &mut Scope,
@@ -189,7 +189,7 @@ fn alignment<'a>(
 
 /// A prefix operator and its operand.
 #[cycle(reading)]
-#[tactic(auto, unfolding(crate::specs::ReadExpr::prefixed))]
+#[tactic(auto, unfolding(c_syntax::specs::ReadExpr::prefixed))]
 fn prefixed<'a>(
     alloc: Global,
     scope: &mut Scope,
@@ -252,7 +252,7 @@ fn name<'a>(
 
 /// Behind a string literal at this place: more of its width, and postfix operators.
 #[cycle(reading)]
-#[tactic(auto, unfolding(crate::specs::ReadExpr::text))]
+#[tactic(auto, unfolding(c_syntax::specs::ReadExpr::text))]
 fn text<'a>(
     alloc: Global,
     scope: &mut Scope,
@@ -275,7 +275,7 @@ fn text<'a>(
 
 /// A unary expression or a cast, with the postfix operators behind it.
 #[cycle(reading)]
-#[tactic(auto, unfolding(crate::specs::ReadExpr::unary_at, crate::specs::ReadExpr::prefixed))]
+#[tactic(auto, unfolding(c_syntax::specs::ReadExpr::unary_at, c_syntax::specs::ReadExpr::prefixed))]
 pub(crate) fn unary_at<'a>(
     alloc: Global,
     scope: &mut Scope,

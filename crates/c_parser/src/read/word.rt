@@ -2,20 +2,20 @@
 
 ghost use Rattle.std.specs.Prelude.{◌≡◌, [], IfOk};
 ghost use Rattle.c_parser.specs.Agree.{Gives};
-ghost use Rattle.c_parser.specs.Height.{specifier_height};
-ghost use Rattle.c_parser.specs.Reader.{seen};
-ghost use Rattle.c_parser.specs.Reader as reader;
-ghost use Rattle.c_parser.specs.ReadSpecifier as spec;
-ghost use Rattle.c_parser.specs.ReadToken as tokens_of;
-ghost use Rattle.c_parser.specs.Scopes.{specifier_adds};
-ghost use Rattle.c_parser.specs.View.{specifier_of};
+ghost use Rattle.c_syntax.specs.Height.{specifier_height};
+ghost use Rattle.c_syntax.specs.Reader.{seen};
+ghost use Rattle.c_syntax.specs.Reader as reader;
+ghost use Rattle.c_syntax.specs.ReadSpecifier as spec;
+ghost use Rattle.c_syntax.specs.ReadToken as tokens_of;
+ghost use Rattle.c_syntax.specs.Scopes.{specifier_adds};
+ghost use Rattle.c_syntax.specs.View.{specifier_of};
 
 use crate::fault::Fault;
 use crate::make::specifier;
 use crate::next::{is_word, place, qualifier_of, tail};
 use crate::part::Part;
-use crate::specifier::{BasicWord, Specifier, Storage};
 use c_lexer::{Body, Token, Word};
+use c_syntax::specifier::{BasicWord, Specifier, Storage};
 use std::alloc::Global;
 
 /// The storage-class specifier that stands here (6.7.1).

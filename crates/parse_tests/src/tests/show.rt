@@ -2,7 +2,7 @@
 use crate::tests::word::{
     access, basic, compound, infix, measure, postfix, prefix, qualifier, storage,
 };
-use c_parser::{
+use c_syntax::{
     Constant, Declarator, Enumerator, Expr, Literals, MemberDeclaration, Parameter, Qualifier,
     Specifier, Tag, TypeName,
 };

@@ -1,6 +1,6 @@
 //! A unit as text.
 use crate::tests::show::{Shown, Text, declarator, expr, specifiers};
-use c_parser::{
+use c_syntax::{
     Assert, BlockItem, Declaration, Expr, External, ForInit, InitDeclarator, Initializer, Item,
     Statement, SwitchItem, Tree,
 };

@@ -1,5 +1,5 @@
 //! The words and marks of operators and specifiers.
-use c_parser::{
+use c_syntax::{
     Access, Arithmetic, BasicWord, Comparison, CompoundWord, Infix, Measure, Postfix, Prefix,
     Qualifier, Storage,
 };

@@ -1,8 +1,8 @@
 -- Each call ends by what is left of the height, and within one height by who calls whom.
 use Rattle.std.proofs.Common.{◌≡◌, length, map, take, ◌+◌, ◌*◌, ◌≤◌, ◌++◌}
-use Rattle.c_parser.specs.Reader.{and_then, give}
-use Rattle.c_parser.specs.ReadBody.{block_run, switch_run, statements}
-use Rattle.c_parser.specs.ViewUnit.{block_item_of, switch_item_of}
+use Rattle.c_syntax.specs.Reader.{and_then, give}
+use Rattle.c_syntax.specs.ReadBody.{block_run, switch_run, statements}
+use Rattle.c_syntax.specs.ViewUnit.{block_item_of, switch_item_of}
 use Rattle.c_parser.proofs.body.+executing.Given as goal
 
 abbrev pub decreases-statement::statement : goal.decreases-statement::statement

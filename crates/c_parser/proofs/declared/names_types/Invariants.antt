@@ -1,6 +1,6 @@
 use Rattle.std.proofs.Common.{◌≡◌, drop}
-use Rattle.c_parser.specs.Scopes.{names_types}
-use Rattle.c_parser.specs.View.{specifiers_of}
+use Rattle.c_syntax.specs.Scopes.{names_types}
+use Rattle.c_syntax.specs.View.{specifiers_of}
 use Rattle.c_parser.proofs.declared.names_types.Given as goal
 
 abbrev pub invariant-loop-specifier : goal.invariant-loop-specifier

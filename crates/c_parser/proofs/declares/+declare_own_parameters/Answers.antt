@@ -1,7 +1,7 @@
 use Rattle.std.proofs.Common.{◌≡◌, true, rules, ◌∙◌, ap, append_assoc}
 use Rattle.std.proofs.lemmas.Result.{IfOk-equal}
-use Rattle.c_parser.specs.ScopesUnit.{is_identifier, own_parameters, own_parameters_add}
-use Rattle.c_parser.specs.View.{declarator_of}
+use Rattle.c_syntax.specs.ScopesUnit.{is_identifier, own_parameters, own_parameters_add}
+use Rattle.c_syntax.specs.View.{declarator_of}
 use Rattle.c_parser.proofs.Adding.{own_parameters_listed}
 use Rattle.c_parser.proofs.declares.+declare_own_parameters.Goals as goal
 

@@ -1,7 +1,7 @@
 use Rattle.std.proofs.Common.{rules, ◌∙◌, ap, append_assoc}
 use Rattle.std.proofs.lemmas.Result.{IfOk-equal}
-use Rattle.c_parser.specs.Scopes.{expr_adds, specifier_adds}
-use Rattle.c_parser.specs.View.{expr_of, specifier_of}
+use Rattle.c_syntax.specs.Scopes.{expr_adds, specifier_adds}
+use Rattle.c_syntax.specs.View.{expr_of, specifier_of}
 use Rattle.c_parser.proofs.Adding.{call_adds, measure_adds, cast_adds, compound_adds, enum_adds, specifiers_listed_add, member_listed_adds}
 use Rattle.c_parser.proofs.declares.+declaring.Goals as goal
 

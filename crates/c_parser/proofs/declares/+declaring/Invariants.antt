@@ -1,7 +1,7 @@
 use Rattle.std.proofs.Common.{◌≡◌, ◌++◌, take}
 use Rattle.std.specs.List.{flat_map}
-use Rattle.c_parser.specs.Scopes.{expr_adds, specifier_adds, member_adds, declarator_adds, enumerator_adds}
-use Rattle.c_parser.specs.View.{expr_of, specifier_of, member_of, declarator_of, enumerator_of}
+use Rattle.c_syntax.specs.Scopes.{expr_adds, specifier_adds, member_adds, declarator_adds, enumerator_adds}
+use Rattle.c_syntax.specs.View.{expr_of, specifier_of, member_of, declarator_of, enumerator_of}
 use Rattle.c_parser.proofs.declares.+declaring.Given as goal
 
 abbrev pub invariant-declare_arguments-loop-each : goal.invariant-declare_arguments-loop-each

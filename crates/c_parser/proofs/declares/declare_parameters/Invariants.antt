@@ -1,7 +1,7 @@
 use Rattle.std.proofs.Common.{◌≡◌, ◌++◌, take}
 use Rattle.std.specs.List.{flat_map}
-use Rattle.c_parser.specs.Scopes.{parameter_adds}
-use Rattle.c_parser.specs.View.{parameter_of}
+use Rattle.c_syntax.specs.Scopes.{parameter_adds}
+use Rattle.c_syntax.specs.View.{parameter_of}
 use Rattle.c_parser.proofs.declares.declare_parameters.Given as goal
 
 abbrev pub invariant-loop-each : goal.invariant-loop-each

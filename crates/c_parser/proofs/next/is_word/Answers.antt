@@ -1,7 +1,7 @@
 use Rattle.std.proofs.Common.{◌≡◌, Some, option_copied, ◌∙◌, ap, sym}
 use Rattle.c_lexer.specs.declared.token.Body.TheVariants as body
-use Rattle.c_parser.specs.Reader.{seen}
-use Rattle.c_parser.specs.ReadToken.{is_word}
+use Rattle.c_syntax.specs.Reader.{seen}
+use Rattle.c_syntax.specs.ReadToken.{is_word}
 use Rattle.c_parser.proofs.NextToken.{word_tested}
 use Rattle.c_parser.proofs.next.is_word.Goals as goal
 

@@ -1,10 +1,10 @@
 use Rattle.std.proofs.Common.{◌≡◌, map, sym, ◌∙◌, ap, subst}
-use Rattle.c_parser.specs.Parsing.{SpelledBy, RefusedAt}
-use Rattle.c_parser.specs.Reader.{Found, Stopped, Unfit, TooDeep}
-use Rattle.c_parser.specs.ReadBody.{externals}
-use Rattle.c_parser.specs.ViewUnit.{external_of}
-use Rattle.c_parser.proofs.ParseLaws.{spelled_by}
-use Rattle.c_parser.proofs.RefusalLaws.{refused_at, reason_of}
+use Rattle.c_syntax.specs.Parsing.{SpelledBy, RefusedAt}
+use Rattle.c_syntax.specs.Reader.{Found, Stopped, Unfit, TooDeep}
+use Rattle.c_syntax.specs.ReadBody.{externals}
+use Rattle.c_syntax.specs.ViewUnit.{external_of}
+use Rattle.c_syntax.proofs.ParseLaws.{spelled_by}
+use Rattle.c_syntax.proofs.RefusalLaws.{refused_at, reason_of}
 use Rattle.c_parser.proofs.parse_unit.parse.Goals as goal
 
 pub returns-in-Ok-clause-tree : goal.returns-in-Ok-clause-tree

@@ -1,15 +1,16 @@
 -- Each call ends by what is left of the height, and within one height by who calls whom.
-use Rattle.std.proofs.Common.{◌≡◌, ℕ, List, Bool, length, map, ◌+◌, ◌-◌, ◌*◌, ◌≤◌, ◌<◌, ◌++◌, nat_le}
-use Rattle.c_parser.specs.Height.{height, exprs_height, declarator_height, enumerators_height, members_height, specifiers_height, declarators_height, parameters_height}
-use Rattle.c_parser.specs.Reader.{climb, and_then, give, many}
-use Rattle.c_parser.specs.ReadExpr.{goes_postfix, postfix_on, postfixes, listed_arguments, goes_infix, infix_on, infixes}
-use Rattle.c_parser.specs.ReadSpecifier.{readers, listed_enumerators, all_members, more_members, goes_specifier, specified_with, comes}
-use Rattle.c_parser.specs.Scopes.{Scope, expr_adds, exprs_add, declarator_adds, enumerators_add, members_add, specifiers_add, declarators_add, parameters_add}
-use Rattle.c_parser.specs.Tree.{Expr, Enumerator, Declarator, Parameter}
-use Rattle.c_parser.specs.View.{expr_of, exprs, declarator_of, enumerator_of, enumerators, member_of, members, specifier_of, specifiers_of, declarators, parameter_of, parameters}
+use Rattle.std.proofs.Common.{◌≡◌, length, map, ◌+◌, ◌-◌, ◌*◌, ◌≤◌, ◌++◌}
+use Rattle.c_syntax.specs.Height.{height, exprs_height, declarator_height, enumerators_height, members_height, specifiers_height, declarators_height, parameters_height}
+use Rattle.c_syntax.specs.Reader.{and_then, give, many}
+use Rattle.c_syntax.specs.ReadExpr.{goes_postfix, postfix_on, postfixes, listed_arguments, goes_infix, infix_on, infixes}
+use Rattle.c_syntax.specs.ReadSpecifier.{readers, listed_enumerators, all_members, more_members, goes_specifier, specified_with, comes}
+use Rattle.c_syntax.specs.Scopes.{expr_adds, exprs_add, declarator_adds, enumerators_add, members_add, specifiers_add, declarators_add, parameters_add}
+use Rattle.c_syntax.specs.View.{expr_of, exprs, declarator_of, enumerator_of, enumerators, member_of, members, specifier_of, specifiers_of, declarators, parameter_of, parameters}
 use Rattle.c_parser.proofs.read.+reading.Given as goal
-use Rattle.c_parser.specs.ReadDeclarator.{goes_suffix, suffix_on, suffixes, listed_declarators, listed_parameters}
-use Rattle.c_parser.specs.declared.read.specifier.Come.TheVariants.{Nothing}
+use Rattle.c_syntax.specs.ReadDeclarator.{goes_suffix, suffix_on, suffixes, listed_declarators, listed_parameters}
+use Rattle.c_syntax.specs.declared.come.Come.TheVariants.{Nothing}
+use Rattle.c_parser.proofs.ClimbTurns.{Climbing}
+use Rattle.c_parser.proofs.ListTurns.{Listing}
 use Rattle.c_parser.proofs.SpecifierTurns.{step, start}
 
 abbrev pub decreases-height::expr : goal.decreases-height::expr
@@ -59,16 +60,10 @@ decreases-postfix::postfix_on l = 64 * l.k + 4
 abbrev pub decreases-postfix::index : goal.decreases-postfix::index
 decreases-postfix::index l = 64 * l.k + 1
 
--- some number of operators more: as many as the height that is left
 abbrev pub invariant-postfix::postfixes-operators : goal.invariant-postfix::postfixes-operators
-invariant-postfix::postfixes-operators l = record {
-  known : l.left.height ≡ height (expr_of l.left.node.value);
-  within : l.left.height ≤ l.k + 1;
-  fuel : (n : ℕ) × (l.k < n + l.left.height) × ((outer : Scope) → l.fn.scope ≡ outer ++ expr_adds (expr_of l.fn.left.node.value) →
-      postfixes l.k (readers l.k) outer (expr_of l.fn.left.node.value) l.tokens
-      ≡ climb goes_postfix (λ e. nat_le (height e) l.k) (postfix_on l.k (readers l.k) outer) n (expr_of l.left.node.value) l.rest);
-  scope : (outer : Scope) → l.fn.scope ≡ outer ++ expr_adds (expr_of l.fn.left.node.value) → l.scope ≡ outer ++ expr_adds (expr_of l.left.node.value);
-}
+invariant-postfix::postfixes-operators l =
+    Climbing l.k goes_postfix height expr_adds (postfix_on l.k (readers l.k)) (λ outer. l.fn.scope ≡ outer ++ expr_adds (expr_of l.fn.left.node.value)) (λ outer. postfixes l.k (readers l.k) outer (expr_of l.fn.left.node.value) l.tokens)
+    (expr_of l.left.node.value) l.left.height l.scope l.rest
 
 abbrev pub decreases-postfix::postfixes-operators : goal.decreases-postfix::postfixes-operators
 decreases-postfix::postfixes-operators l = l.k + 1 - l.left.height
@@ -77,12 +72,9 @@ abbrev pub decreases-postfix::listed_arguments : goal.decreases-postfix::listed_
 decreases-postfix::listed_arguments l = 64 * l.k + 1
 
 abbrev pub invariant-postfix::listed_arguments-each : goal.invariant-postfix::listed_arguments-each
-invariant-postfix::listed_arguments-each l = record {
-  reads : listed_arguments l.k (readers l.k) l.fn.scope l.tokens
-      ≡ and_then (listed_arguments l.k (readers l.k) l.scope l.rest) (λ more. give {A = List Expr × Bool} (map expr_of l.all.nodes.items ++ more.0, more.1));
-  height : (l.all.height ≡ exprs_height (exprs (map expr_of l.all.nodes.items))) × (l.all.height ≤ l.k);
-  scope : l.scope ≡ l.fn.scope ++ exprs_add (exprs (map expr_of l.all.nodes.items));
-}
+invariant-postfix::listed_arguments-each l =
+    Listing (listed_arguments l.k (readers l.k)) expr_of (λ all. exprs_height (exprs (map expr_of all))) (λ all. exprs_add (exprs (map expr_of all))) l.k l.fn.scope l.tokens
+    l.all.nodes.items l.all.height l.scope l.rest
 
 abbrev pub decreases-postfix::listed_arguments-each : goal.decreases-postfix::listed_arguments-each
 decreases-postfix::listed_arguments-each l = length l.rest
@@ -110,16 +102,10 @@ decreases-infix::between_on l = 64 * l.k + 1
 abbrev pub decreases-infix::cond_on : goal.decreases-infix::cond_on
 decreases-infix::cond_on l = 64 * l.k + 1
 
--- some number of operators more: as many as the height that is left
 abbrev pub invariant-infix::infixes-operators : goal.invariant-infix::infixes-operators
-invariant-infix::infixes-operators l = record {
-  known : l.left.height ≡ height (expr_of l.left.node.value);
-  within : l.left.height ≤ l.k + 1;
-  fuel : (n : ℕ) × (l.k < n + l.left.height) × ((outer : Scope) → l.fn.scope ≡ outer ++ expr_adds (expr_of l.fn.left.node.value) →
-      infixes l.k (readers l.k) outer l.level (expr_of l.fn.left.node.value) l.tokens
-      ≡ climb (goes_infix l.level) (λ e. nat_le (height e) l.k) (infix_on l.k (readers l.k) outer) n (expr_of l.left.node.value) l.rest);
-  scope : (outer : Scope) → l.fn.scope ≡ outer ++ expr_adds (expr_of l.fn.left.node.value) → l.scope ≡ outer ++ expr_adds (expr_of l.left.node.value);
-}
+invariant-infix::infixes-operators l =
+    Climbing l.k (goes_infix l.level) height expr_adds (infix_on l.k (readers l.k)) (λ outer. l.fn.scope ≡ outer ++ expr_adds (expr_of l.fn.left.node.value)) (λ outer. infixes l.k (readers l.k) outer l.level (expr_of l.fn.left.node.value) l.tokens)
+    (expr_of l.left.node.value) l.left.height l.scope l.rest
 
 abbrev pub decreases-infix::infixes-operators : goal.decreases-infix::infixes-operators
 decreases-infix::infixes-operators l = l.k + 1 - l.left.height
@@ -174,16 +160,10 @@ decreases-parameters::parameters_at l = 64 * l.k + 5
 abbrev pub decreases-parameters::listed_parameters : goal.decreases-parameters::listed_parameters
 decreases-parameters::listed_parameters l = 64 * l.k + 4
 
--- some number of suffixes more: as many as the height that is left
 abbrev pub invariant-suffix::suffixes-each : goal.invariant-suffix::suffixes-each
-invariant-suffix::suffixes-each l = record {
-  known : l.left.height ≡ declarator_height (declarator_of l.left.node.value);
-  within : l.left.height ≤ l.k + 1;
-  fuel : (n : ℕ) × (l.k < n + l.left.height) × ((outer : Scope) → l.fn.scope ≡ outer ++ declarator_adds (declarator_of l.fn.left.node.value) →
-      suffixes l.k (readers l.k) outer (declarator_of l.fn.left.node.value) l.tokens
-      ≡ climb goes_suffix (λ d. nat_le (declarator_height d) l.k) (suffix_on l.k (readers l.k) outer) n (declarator_of l.left.node.value) l.rest);
-  scope : (outer : Scope) → l.fn.scope ≡ outer ++ declarator_adds (declarator_of l.fn.left.node.value) → l.scope ≡ outer ++ declarator_adds (declarator_of l.left.node.value);
-}
+invariant-suffix::suffixes-each l =
+    Climbing l.k goes_suffix declarator_height declarator_adds (suffix_on l.k (readers l.k)) (λ outer. l.fn.scope ≡ outer ++ declarator_adds (declarator_of l.fn.left.node.value)) (λ outer. suffixes l.k (readers l.k) outer (declarator_of l.fn.left.node.value) l.tokens)
+    (declarator_of l.left.node.value) l.left.height l.scope l.rest
 
 abbrev pub decreases-suffix::suffixes-each : goal.decreases-suffix::suffixes-each
 decreases-suffix::suffixes-each l = l.k + 1 - l.left.height
@@ -244,12 +224,9 @@ abbrev pub decreases-enumeration::enumerator_on : goal.decreases-enumeration::en
 decreases-enumeration::enumerator_on l = 64 * l.k + 5
 
 abbrev pub invariant-enumeration::listed_enumerators-each : goal.invariant-enumeration::listed_enumerators-each
-invariant-enumeration::listed_enumerators-each l = record {
-  reads : listed_enumerators l.k (readers l.k) l.fn.scope l.tokens
-      ≡ and_then (listed_enumerators l.k (readers l.k) l.scope l.rest) (λ more. give {A = List Enumerator × Bool} (map enumerator_of l.all.nodes.items ++ more.0, more.1));
-  height : (l.all.height ≡ enumerators_height (enumerators (map enumerator_of l.all.nodes.items))) × (l.all.height ≤ l.k);
-  scope : l.scope ≡ l.fn.scope ++ enumerators_add (enumerators (map enumerator_of l.all.nodes.items));
-}
+invariant-enumeration::listed_enumerators-each l =
+    Listing (listed_enumerators l.k (readers l.k)) enumerator_of (λ all. enumerators_height (enumerators (map enumerator_of all))) (λ all. enumerators_add (enumerators (map enumerator_of all))) l.k l.fn.scope l.tokens
+    l.all.nodes.items l.all.height l.scope l.rest
 
 abbrev pub decreases-enumeration::listed_enumerators-each : goal.decreases-enumeration::listed_enumerators-each
 decreases-enumeration::listed_enumerators-each l = length l.rest
@@ -307,23 +284,17 @@ abbrev pub decreases-member::listed_declarators : goal.decreases-member::listed_
 decreases-member::listed_declarators l = 64 * l.k + 1
 
 abbrev pub invariant-member::listed_declarators-each : goal.invariant-member::listed_declarators-each
-invariant-member::listed_declarators-each l = record {
-  reads : listed_declarators l.k (readers l.k) l.fn.scope l.tokens
-      ≡ and_then (listed_declarators l.k (readers l.k) l.scope l.rest) (λ more. give {A = List Declarator × Bool} (map declarator_of l.all.nodes.items ++ more.0, more.1));
-  height : (l.all.height ≡ declarators_height (declarators (map declarator_of l.all.nodes.items))) × (l.all.height ≤ l.k);
-  scope : l.scope ≡ l.fn.scope ++ declarators_add (declarators (map declarator_of l.all.nodes.items));
-}
+invariant-member::listed_declarators-each l =
+    Listing (listed_declarators l.k (readers l.k)) declarator_of (λ all. declarators_height (declarators (map declarator_of all))) (λ all. declarators_add (declarators (map declarator_of all))) l.k l.fn.scope l.tokens
+    l.all.nodes.items l.all.height l.scope l.rest
 
 abbrev pub decreases-member::listed_declarators-each : goal.decreases-member::listed_declarators-each
 decreases-member::listed_declarators-each l = length l.rest
 
 abbrev pub invariant-parameters::listed_parameters-each : goal.invariant-parameters::listed_parameters-each
-invariant-parameters::listed_parameters-each l = record {
-  reads : listed_parameters l.k (readers l.k) l.fn.scope l.tokens
-      ≡ and_then (listed_parameters l.k (readers l.k) l.scope l.rest) (λ more. give {A = List Parameter × Bool} (map parameter_of l.all.nodes.items ++ more.0, more.1));
-  height : (l.all.height ≡ parameters_height (parameters (map parameter_of l.all.nodes.items))) × (l.all.height ≤ l.k);
-  scope : l.scope ≡ l.fn.scope ++ parameters_add (parameters (map parameter_of l.all.nodes.items));
-}
+invariant-parameters::listed_parameters-each l =
+    Listing (listed_parameters l.k (readers l.k)) parameter_of (λ all. parameters_height (parameters (map parameter_of all))) (λ all. parameters_add (parameters (map parameter_of all))) l.k l.fn.scope l.tokens
+    l.all.nodes.items l.all.height l.scope l.rest
 
 abbrev pub decreases-parameters::listed_parameters-each : goal.decreases-parameters::listed_parameters-each
 decreases-parameters::listed_parameters-each l = length l.rest

@@ -1,5 +1,5 @@
 use Rattle.std.proofs.Common.{rules}
-use Rattle.c_parser.specs.ReadBody.{assert_on}
+use Rattle.c_syntax.specs.ReadBody.{assert_on}
 use Rattle.c_parser.proofs.body.assertion.assert_on.Goals as goal
 
 pub returns-clause-reads : goal.returns-clause-reads

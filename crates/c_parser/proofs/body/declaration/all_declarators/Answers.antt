@@ -2,13 +2,13 @@ use Rattle.std.proofs.Common.{List, [], ◌∷◌, ◌++◌, map, ap, sym, ◌�
 use Rattle.std.proofs.lemmas.List.{append-nil}
 use Rattle.std.proofs.lemmas.Result.{err_from_is_err_and}
 use Rattle.c_lexer.specs.declared.punct.Punct.TheVariants as p
-use Rattle.c_parser.specs.Reader.{and_then, give, ones}
-use Rattle.c_parser.specs.ReadBody.{init_declarator, more_declarators, init_declarator_adds}
-use Rattle.c_parser.specs.ScopesUnit.{init_declarators_add}
-use Rattle.c_parser.specs.TreeUnit.{InitDeclarator}
-use Rattle.c_parser.specs.ViewUnit.{init_declarator_of}
-use Rattle.c_parser.proofs.OnlineBody.{init_declarator_online}
-use Rattle.c_parser.proofs.OnlineTools.{online_give}
+use Rattle.c_syntax.specs.Reader.{and_then, give, ones}
+use Rattle.c_syntax.specs.ReadBody.{init_declarator, more_declarators, init_declarator_adds}
+use Rattle.c_syntax.specs.ScopesUnit.{init_declarators_add}
+use Rattle.c_syntax.specs.TreeUnit.{InitDeclarator}
+use Rattle.c_syntax.specs.ViewUnit.{init_declarator_of}
+use Rattle.c_syntax.proofs.OnlineBody.{init_declarator_online}
+use Rattle.c_syntax.proofs.OnlineTools.{online_give}
 use Rattle.c_parser.proofs.Pushed.{pushed, added}
 use Rattle.c_parser.proofs.PushedBody.{inits_add_more}
 use Rattle.c_parser.proofs.Refused.{refused}

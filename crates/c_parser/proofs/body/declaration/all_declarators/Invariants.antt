@@ -1,11 +1,11 @@
 -- The declarators so far, and those behind them.
 use Rattle.std.proofs.Common.{◌≡◌, List, ◌++◌, length, map}
-use Rattle.c_parser.specs.Reader.{and_then, give, ones}
-use Rattle.c_parser.specs.ReadBody.{more_declarators, all_declarators, init_declarator_adds}
-use Rattle.c_parser.specs.Scopes.{Scope}
-use Rattle.c_parser.specs.ScopesUnit.{init_declarators_add}
-use Rattle.c_parser.specs.TreeUnit.{InitDeclarator}
-use Rattle.c_parser.specs.ViewUnit.{init_declarator_of}
+use Rattle.c_syntax.specs.Reader.{and_then, give, ones}
+use Rattle.c_syntax.specs.ReadBody.{more_declarators, all_declarators, init_declarator_adds}
+use Rattle.c_syntax.specs.Scopes.{Scope}
+use Rattle.c_syntax.specs.ScopesUnit.{init_declarators_add}
+use Rattle.c_syntax.specs.TreeUnit.{InitDeclarator}
+use Rattle.c_syntax.specs.ViewUnit.{init_declarator_of}
 use Rattle.c_parser.proofs.body.declaration.all_declarators.Given as goal
 
 abbrev pub invariant-each : goal.invariant-each

@@ -1,10 +1,10 @@
 -- Each call ends by what is left of the height, and within one height by who calls whom.
 use Rattle.std.proofs.Common.{◌≡◌, List, Bool, length, map, ◌+◌, ◌*◌, ◌++◌}
-use Rattle.c_parser.specs.Reader.{and_then, give}
-use Rattle.c_parser.specs.ReadBody.{initializers, listed_items, items}
-use Rattle.c_parser.specs.ScopesUnit.{items_add}
-use Rattle.c_parser.specs.TreeUnit.{Item}
-use Rattle.c_parser.specs.ViewUnit.{item_of}
+use Rattle.c_syntax.specs.Reader.{and_then, give}
+use Rattle.c_syntax.specs.ReadBody.{initializers, listed_items, items}
+use Rattle.c_syntax.specs.ScopesUnit.{items_add}
+use Rattle.c_syntax.specs.TreeUnit.{Item}
+use Rattle.c_syntax.specs.ViewUnit.{item_of}
 use Rattle.c_parser.proofs.body.initializer.+initializing.Given as goal
 
 abbrev pub decreases-initializer : goal.decreases-initializer

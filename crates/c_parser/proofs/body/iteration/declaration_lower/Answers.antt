@@ -1,6 +1,6 @@
 use Rattle.std.proofs.Common.{sym, subst}
 use Rattle.c_parser.specs.Agree.{Gives}
-use Rattle.c_parser.specs.ViewUnit.{declaration_of}
+use Rattle.c_syntax.specs.ViewUnit.{declaration_of}
 use Rattle.c_parser.proofs.LowerStatements.{declaration_below}
 use Rattle.c_parser.proofs.body.iteration.declaration_lower.Goals as goal
 

@@ -1,8 +1,8 @@
 use Rattle.std.proofs.Common.{◌≡◌, false, [], ◌∷◌, ◌++◌, map, refl, ◌∙◌, ap, rules}
 use Rattle.std.proofs.lemmas.Result.{err_from_is_err_and}
-use Rattle.c_parser.specs.ReadBody.{external_at}
-use Rattle.c_parser.specs.ViewUnit.{external_of}
-use Rattle.c_parser.proofs.OnlineStatement.{external_at_online, external_at_takes}
+use Rattle.c_syntax.specs.ReadBody.{external_at}
+use Rattle.c_syntax.specs.ViewUnit.{external_of}
+use Rattle.c_syntax.proofs.OnlineStatement.{external_at_online, external_at_takes}
 use Rattle.c_parser.proofs.Pushed.{pushed}
 use Rattle.c_parser.proofs.Refused.{refused}
 use Rattle.c_parser.proofs.Turns.{all_over, all_refused, all_turn, all_shorter}

@@ -1,9 +1,9 @@
 use Rattle.std.proofs.Common.{◌≡◌, length, map, ◌++◌}
 use Rattle.std.specs.Prelude.{is_some}
-use Rattle.c_parser.specs.Reader.{and_then, give, many}
-use Rattle.c_parser.specs.ReadBody.{external_at, externals}
-use Rattle.c_parser.specs.ScopesUnit.{external_adds}
-use Rattle.c_parser.specs.ViewUnit.{external_of}
+use Rattle.c_syntax.specs.Reader.{and_then, give, many}
+use Rattle.c_syntax.specs.ReadBody.{external_at, externals}
+use Rattle.c_syntax.specs.ScopesUnit.{external_adds}
+use Rattle.c_syntax.specs.ViewUnit.{external_of}
 use Rattle.c_parser.proofs.body.unit.externals.Given as goal
 
 abbrev pub invariant-each : goal.invariant-each

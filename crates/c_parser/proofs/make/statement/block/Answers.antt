@@ -1,5 +1,5 @@
 use Rattle.std.proofs.Common.{◌∙◌, ap}
-use Rattle.c_parser.specs.ViewUnit.{statement_of}
+use Rattle.c_syntax.specs.ViewUnit.{statement_of}
 use Rattle.c_parser.proofs.RowsUnit.{block_tree}
 use Rattle.c_parser.proofs.make.statement.block.Goals as goal
 

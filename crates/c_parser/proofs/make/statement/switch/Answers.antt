@@ -1,8 +1,8 @@
 use Rattle.std.proofs.Common.{◌∙◌, ap, map}
-use Rattle.c_parser.specs.ReadBody.{switch_items}
-use Rattle.c_parser.specs.TreeUnit.{Switch}
-use Rattle.c_parser.specs.View.{expr_of}
-use Rattle.c_parser.specs.ViewUnit.{statement_of, switch_item_of}
+use Rattle.c_syntax.specs.ReadBody.{switch_items}
+use Rattle.c_syntax.specs.TreeUnit.{Switch}
+use Rattle.c_syntax.specs.View.{expr_of}
+use Rattle.c_syntax.specs.ViewUnit.{statement_of, switch_item_of}
 use Rattle.c_parser.proofs.RowsUnit.{switch_tree}
 use Rattle.c_parser.proofs.make.statement.switch.Goals as goal
 

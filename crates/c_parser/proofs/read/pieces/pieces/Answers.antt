@@ -1,7 +1,7 @@
 use Rattle.std.proofs.Common.{◌≡◌, [], ◌∷◌, ◌++◌, refl, sym, ◌∙◌, ap}
-use Rattle.c_parser.specs.Reader.{Found}
-use Rattle.c_parser.specs.ReadExpr.{pieces}
-use Rattle.c_parser.proofs.OnlineExpr.{piece_online, piece_takes, no_literal}
+use Rattle.c_syntax.specs.Reader.{Found}
+use Rattle.c_syntax.specs.ReadExpr.{pieces}
+use Rattle.c_syntax.proofs.OnlineExpr.{piece_online, piece_takes, no_literal}
 use Rattle.c_parser.proofs.Turns.{all_over, all_turn}
 use Rattle.c_parser.proofs.read.pieces.pieces.Goals as goal
 

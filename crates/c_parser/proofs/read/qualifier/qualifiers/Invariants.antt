@@ -1,7 +1,7 @@
 use Rattle.std.proofs.Common.{◌≡◌, ◌++◌, length}
-use Rattle.c_parser.specs.Reader.{and_then, give}
-use Rattle.c_parser.specs.ReadDeclarator.{qualifiers}
-use Rattle.c_parser.specs.Scopes.{Scope}
+use Rattle.c_syntax.specs.Reader.{and_then, give}
+use Rattle.c_syntax.specs.ReadDeclarator.{qualifiers}
+use Rattle.c_syntax.specs.Scopes.{Scope}
 use Rattle.c_parser.proofs.read.qualifier.qualifiers.Given as goal
 
 abbrev pub invariant-words : goal.invariant-words

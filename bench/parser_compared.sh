@@ -1,0 +1,79 @@
+#!/usr/bin/env bash
+# Compares what the proved parser answers of random units with gcc and clang: no unit that it takes may have an error of
+# syntax in both, and each unit that it refuses has to be refused by one of them. It prints each unit for which that doesn't
+# hold, how many were compared, and of how many refused units one of them complains of the same token. Two arguments: a
+# seed, and how many units. It builds a small program over c_parser in a folder of its own, and changes nothing here.
+set -eu
+bench=$(cd "$(dirname "$0")" && pwd)
+work=$(mktemp -d)
+trap 'rm -rf "$work"' EXIT
+
+mkdir -p "$work/crates/parse_answers/src"
+tar -C "$bench/../crates" --exclude=out -cf - critical_table c_lexer c_syntax c_parser | tar -C "$work/crates" -xf -
+cp "$bench/../HANDLES" "$work/"
+grep -E '^(critical_table|c_lexer|c_syntax|c_parser):' "$bench/../crates.txt" >"$work/crates.txt"
+echo 'parse_answers: c_lexer c_parser' >>"$work/crates.txt"
+cat >"$work/crates/parse_answers/src/main.rt" <<'PROGRAM'
+//! Writes for each unit on its input, ended by a null byte, whether it has a tree, or the column where it is refused.
+#![tactic(auto)]
+
+use c_lexer::lex;
+use c_parser::{SyntaxFault, parse};
+use std::io::Read;
+use std::process::ExitCode;
+
+fn main(rt: HostRuntime) -> ExitCode {
+    let mut bytes = Vec::new(rt.alloc());
+    if rt.stdin().read_to_end(&mut bytes).is_err() {
+        return ExitCode::from(2);
+    }
+    for unit in bytes.as_slice().split(|byte| *byte == 0) {
+        let Ok(tokens) = lex(rt.alloc(), unit) else {
+            return ExitCode::from(3);
+        };
+        let told = match parse(rt.alloc(), &tokens) {
+            Ok(_) => println!(rt; "taken"),
+            Err(SyntaxFault::Syntax(pos)) => println!(rt; "{}", pos.column),
+            Err(_) => return ExitCode::from(4),
+        };
+        if told.is_err() {
+            return ExitCode::from(2);
+        }
+    }
+    ExitCode::from(0)
+}
+PROGRAM
+
+python3 "$bench/random_units.py" "${1:-1}" "${2:-1000}" >"$work/units"
+(cd "$work/crates/parse_answers" && rt run <"$work/units" >"$work/answers" 2>"$work/log") || { cat "$work/log" >&2; exit 1; }
+python3 - "$work/units" "$work/answers" <<'COMPARE'
+import re, subprocess, sys
+
+GCC = ['gcc', '-fsyntax-only', '-std=c11', '-pedantic-errors', '-fmax-errors=0', '-xc', '-']
+CLANG = ['clang', '-fsyntax-only', '-std=c11', '-pedantic-errors', '-ferror-limit=0', '-Wno-newline-eof', '-xc', '-']
+SYNTAX = re.compile(r'expected (?!.* but )|unknown type name|type name requires|extraneous|unexpected')
+
+
+def errors(command, unit):
+    ran = subprocess.run(command, input=unit, capture_output=True, text=True)
+    return [(int(column), what) for column, what in re.findall(r'^<stdin>:\d+:(\d+): error: (.*)', ran.stderr, re.M)]
+
+
+units = open(sys.argv[1]).read().split('\0')[:-1]
+taken = refused = there = others = 0
+for unit, answer in zip(units, open(sys.argv[2]).read().split(), strict=False):
+    found = [errors(command, unit) for command in (GCC, CLANG)]
+    if answer == 'taken':
+        taken += 1
+        differs = all(any(SYNTAX.match(what) for _, what in each) for each in found)
+    else:
+        refused += 1
+        columns = [column for each in found for column, _ in each]
+        there += int(answer) in columns
+        differs = not columns
+    if differs:
+        others += 1
+        print(f'{unit}\n    parse: {answer}\n    gcc: {found[0][:1]}\n    clang: {found[1][:1]}')
+print(f'{taken} units taken; {refused} refused, {there} where gcc or clang complains; {others} otherwise than gcc and clang')
+sys.exit(others > 0)
+COMPARE

@@ -1,7 +1,0 @@
-use Rattle.std.proofs.Common.{rules, append_assoc}
-use Rattle.std.proofs.lemmas.Result.{IfOk-equal}
-use Rattle.c_parser.proofs.PartsUnit.{spells_declaration}
-use Rattle.c_parser.proofs.spell_unit.declaration.Goals as goal
-
-pub returns : goal.returns
-returns c = rw (spells_declaration c.args.of.now) (search (rules, IfOk-equal, append_assoc))

@@ -1,7 +1,0 @@
-use Rattle.std.proofs.Common.{rules, append_assoc}
-use Rattle.std.proofs.lemmas.Result.{IfOk-equal}
-use Rattle.c_parser.proofs.PartsUnit.{spells_function}
-use Rattle.c_parser.proofs.spell_unit.function.Goals as goal
-
-pub returns : goal.returns
-returns c = rw (spells_function c.args.of.now) (search (rules, IfOk-equal, append_assoc))
