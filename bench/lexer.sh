@@ -2,17 +2,11 @@
 # How fast the proved lexer reads: bytes per second of units of 1, 2 and 4 MiB, and whether twice the bytes take twice the
 # time. It builds a small program over c_lexer in a folder of its own, and changes nothing here.
 set -eu
-top=$(cd "$(dirname "$0")/.." && pwd)
 work=$(mktemp -d)
 trap 'rm -rf "$work"' EXIT
 turns=20
 
-mkdir -p "$work/crates/lex_timing/src"
-tar -C "$top/crates" --exclude=out -cf - critical_table c_lexer | tar -C "$work/crates" -xf -
-cp "$top/HANDLES" "$work/"
-grep -E '^(critical_table|c_lexer):' "$top/crates.txt" >"$work/crates.txt"
-echo 'lex_timing: c_lexer' >>"$work/crates.txt"
-cat >"$work/crates/lex_timing/src/main.rt" <<'PROGRAM'
+cat >"$work/main.rt" <<'PROGRAM'
 //! Lexes what stands on its input TURNS times.
 #![tactic(auto)]
 
@@ -33,7 +27,7 @@ fn main(rt: HostRuntime) -> ExitCode {
     ExitCode::from(0)
 }
 PROGRAM
-sed -i "s/TURNS/$turns/" "$work/crates/lex_timing/src/main.rt"
+program=$(sed "s/TURNS/$turns/" "$work/main.rt" | "$(dirname "$0")/program.sh" "$work/repository" c_lexer)
 
 # a function with names, numbers, marks, a literal, a character and comments, again and again
 part='/* adds */ static int add_one(const char *s, long n) { int v = 0x1Fu + 42; if (*s == '"'\\n'"') v <<= 2; // twice
@@ -49,8 +43,6 @@ for size in 1048576 2097152 4194304; do
   head -c "$left" </dev/zero | tr '\0' ' ' >>"$work/unit.$size"
 done
 
-(cd "$work/crates/lex_timing" && rt run <"$work/unit.1048576" >"$work/log" 2>&1) || { cat "$work/log" >&2; exit 1; }
-program=$work/crates/lex_timing/out/lex_timing
 before=0
 for size in 1048576 2097152 4194304; do
   start=$(date +%s%N)

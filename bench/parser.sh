@@ -3,16 +3,10 @@
 # greatest memory for each token. One unit repeats a function, another declares as many names as it can. It builds a small
 # program over c_parser in a folder of its own, and changes nothing here.
 set -eu
-top=$(cd "$(dirname "$0")/.." && pwd)
 work=$(mktemp -d)
 trap 'rm -rf "$work"' EXIT
 
-mkdir -p "$work/crates/parse_timing/src"
-tar -C "$top/crates" --exclude=out -cf - critical_table c_lexer c_syntax c_parser | tar -C "$work/crates" -xf -
-cp "$top/HANDLES" "$work/"
-grep -E '^(critical_table|c_lexer|c_syntax|c_parser):' "$top/crates.txt" >"$work/crates.txt"
-echo 'parse_timing: c_lexer c_parser' >>"$work/crates.txt"
-cat >"$work/crates/parse_timing/src/main.rt" <<'PROGRAM'
+program=$("$(dirname "$0")/program.sh" "$work/repository" c_lexer c_parser <<'PROGRAM'
 //! Parses what stands on its input, and writes how many tokens it has.
 #![tactic(auto)]
 
@@ -38,6 +32,7 @@ fn main(rt: HostRuntime) -> ExitCode {
     ExitCode::from(0)
 }
 PROGRAM
+)
 
 cat >"$work/make.py" <<'MAKE'
 import sys
@@ -55,9 +50,6 @@ while True:
     n += 1
 MAKE
 
-echo 'int x;' >"$work/unit"
-(cd "$work/crates/parse_timing" && rt run <"$work/unit" >"$work/log" 2>&1) || { cat "$work/log" >&2; exit 1; }
-program=$work/crates/parse_timing/out/parse_timing
 for kind in functions names; do
   before=0
   for size in 1048576 2097152 4194304; do

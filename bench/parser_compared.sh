@@ -4,16 +4,11 @@
 # hold, how many were compared, and of how many refused units one of them complains of the same token. Two arguments: a
 # seed, and how many units. It builds a small program over c_parser in a folder of its own, and changes nothing here.
 set -eu
-bench=$(cd "$(dirname "$0")" && pwd)
+bench=$(dirname "$0")
 work=$(mktemp -d)
 trap 'rm -rf "$work"' EXIT
 
-mkdir -p "$work/crates/parse_answers/src"
-tar -C "$bench/../crates" --exclude=out -cf - critical_table c_lexer c_syntax c_parser | tar -C "$work/crates" -xf -
-cp "$bench/../HANDLES" "$work/"
-grep -E '^(critical_table|c_lexer|c_syntax|c_parser):' "$bench/../crates.txt" >"$work/crates.txt"
-echo 'parse_answers: c_lexer c_parser' >>"$work/crates.txt"
-cat >"$work/crates/parse_answers/src/main.rt" <<'PROGRAM'
+program=$("$bench/program.sh" "$work/repository" c_lexer c_parser <<'PROGRAM'
 //! Writes for each unit on its input, ended by a null byte, whether it has a tree, or the column where it is refused.
 #![tactic(auto)]
 
@@ -43,9 +38,10 @@ fn main(rt: HostRuntime) -> ExitCode {
     ExitCode::from(0)
 }
 PROGRAM
+)
 
 python3 "$bench/random_units.py" "${1:-1}" "${2:-1000}" >"$work/units"
-(cd "$work/crates/parse_answers" && rt run <"$work/units" >"$work/answers" 2>"$work/log") || { cat "$work/log" >&2; exit 1; }
+"$program" <"$work/units" >"$work/answers"
 python3 - "$work/units" "$work/answers" <<'COMPARE'
 import re, subprocess, sys
 
