@@ -2,6 +2,7 @@
 mod declarations;
 mod expressions;
 mod limits;
+mod printed;
 mod programs;
 mod refusals;
 mod scopes;

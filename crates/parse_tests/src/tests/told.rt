@@ -1,4 +1,5 @@
 //! What a unit is answered with, as text.
+use crate::tests::printed::gives_back;
 use crate::tests::show_unit::shown;
 use c_lexer::lex;
 use c_parser::{SyntaxFault, parse};
@@ -6,13 +7,18 @@ use std::alloc::{AllocError, Global};
 use std::process::Abort;
 use std::test::Fail;
 
-/// The tree, or why the unit is refused, and where.
+/// The tree, which has to be printed as the unit's tokens, or why the unit is refused, and where.
 pub fn told(alloc: Global, unit: &str, parens: bool) -> Result<String, AllocError> {
     let Ok(tokens) = lex(alloc, unit.as_bytes()) else {
         return String::from_str(alloc, "no tokens");
     };
     match parse(alloc, &tokens) {
-        Ok(tree) => shown(alloc, &tree, parens),
+        Ok(tree) => {
+            if !gives_back(alloc, &tokens, &tree)? {
+                return String::from_str(alloc, "printed otherwise");
+            }
+            shown(alloc, &tree, parens)
+        }
         Err(SyntaxFault::Syntax(pos)) => format!(in alloc; "Syntax {}:{}", pos.line, pos.column),
         Err(SyntaxFault::Deep(pos)) => format!(in alloc; "Deep {}:{}", pos.line, pos.column),
         Err(SyntaxFault::Memory(cause)) => Err(cause),
