@@ -1,8 +1,9 @@
 #!/usr/bin/env bash
 # Compares what the proved parser answers of random units with gcc and clang: no unit that it takes may have an error of
-# syntax in both, and each unit that it refuses has to be refused by one of them. It prints each unit for which that doesn't
-# hold, how many were compared, and of how many refused units one of them complains of the same token. Two arguments: a
-# seed, and how many units. It builds a small program over c_parser in a folder of its own, and changes nothing here.
+# syntax in both, and in each that it refuses one of them has to find an error of some kind. It prints each unit for which
+# that doesn't hold, how many were compared, and of how many refused units one of them complains of the refused token. Two
+# arguments: a seed, and how many units. It builds a small program over c_parser in a folder of its own, and changes
+# nothing here.
 set -eu
 bench=$(dirname "$0")
 work=$(mktemp -d)
@@ -57,7 +58,9 @@ def errors(command, unit):
 
 units = open(sys.argv[1]).read().split('\0')[:-1]
 taken = refused = there = others = 0
-for unit, answer in zip(units, open(sys.argv[2]).read().split(), strict=False):
+# the empty text behind the last null byte is answered too
+answers = open(sys.argv[2]).read().split()[:-1]
+for unit, answer in zip(units, answers, strict=True):
     found = [errors(command, unit) for command in (GCC, CLANG)]
     if answer == 'taken':
         taken += 1
