@@ -1,5 +1,5 @@
 mod NextToken
-mod LowerReaders
+mod LowerParsers
 mod Turns
 mod Refused
 mod Pushed

@@ -1,4 +1,4 @@
--- The readers of statements and declarations of a height by those of the height below.
+-- The parsers of statements and declarations of a height by those of the height below.
 use Rattle.std.proofs.Common.{◌≡◌, ℕ, zero, suc, ◌-◌, refl, subst, arith}
 use Rattle.c_syntax.specs.Scopes.{Scope}
 use Rattle.c_syntax.specs.ReadBody.{Statements, statements, statement_at, block_item_at, switch_item_at, declaration_at, declaration_lower}

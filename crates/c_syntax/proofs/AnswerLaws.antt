@@ -86,7 +86,7 @@ pub not_both : (stream : Stream) (tree : Tree) (why : Refusal) (pos : Pos)
 not_both stream tree why pos is (inl at) = none_whole stream why pos at (begins_whole stream tree is)
 not_both stream tree why pos is (inr at) = at.none (tree, is.fits, is.spells)
 
-one_reason : (why why' : Refusal) (tokens : List Token) → IsReason why tokens → IsReason why' tokens → why ≡ why'
+one_reason : (why other_why : Refusal) (tokens : List Token) → IsReason why tokens → IsReason other_why tokens → why ≡ other_why
 one_reason Deep Deep tokens is is' = refl
 one_reason Deep Syntax tokens is is' = absurd (is' is.0 is.1)
 one_reason Syntax Deep tokens is is' = absurd (is is'.0 is'.1)
@@ -95,13 +95,13 @@ one_reason Deep _ tokens is is' = absurd is'
 one_reason Syntax _ tokens is is' = absurd is'
 one_reason _ _ tokens is is' = absurd is
 
-at_one_token : (stream : Stream) (why why' : Refusal) (pos pos' : Pos)
-    → RefusedAtToken stream why pos → RefusedAtToken stream why' pos' → (why ≡ why') × (pos ≡ pos')
-at_one_token stream why why' pos pos' at at' =
+at_one_token : (stream : Stream) (why other_why : Refusal) (pos other_pos : Pos)
+    → RefusedAtToken stream why pos → RefusedAtToken stream other_why other_pos → (why ≡ other_why) × (pos ≡ other_pos)
+at_one_token stream why other_why pos other_pos at at' =
     elim (seams at.before at'.before at.token at'.token at.after at'.after (sym at.parts ∙ at'.parts)) [
       | inl same ↦ (
         let tokens : at'.before ++ at'.token ∷ [] ≡ at.before ++ at.token ∷ [] = cc (same.0, same.1) in
-            one_reason why why' _ at.reason (subst (IsReason why') tokens at'.reason),
+            one_reason why other_why _ at.reason (subst (IsReason other_why) tokens at'.reason),
         at.place ∙ ap (λ token. token.pos) same.1 ∙ sym at'.place,
       )
       | inr (inl later) ↦ absurd (
@@ -112,9 +112,9 @@ at_one_token stream why why' pos pos' at at' =
           )
     ]
 
-pub one_refusal : (stream : Stream) (why why' : Refusal) (pos pos' : Pos)
-    → RefusedAt stream why pos → RefusedAt stream why' pos' → (why ≡ why') × (pos ≡ pos')
-one_refusal stream why why' pos pos' (inl at) (inl at') = at_one_token stream why why' pos pos' at at'
-one_refusal stream why why' pos pos' (inl at) (inr at') = absurd (none_whole stream why pos at at'.begins)
-one_refusal stream why why' pos pos' (inr at) (inl at') = absurd (none_whole stream why' pos' at' at.begins)
-one_refusal stream why why' pos pos' (inr at) (inr at') = (at.reason ∙ sym at'.reason, at.place ∙ sym at'.place)
+pub one_refusal : (stream : Stream) (why other_why : Refusal) (pos other_pos : Pos)
+    → RefusedAt stream why pos → RefusedAt stream other_why other_pos → (why ≡ other_why) × (pos ≡ other_pos)
+one_refusal stream why other_why pos other_pos (inl at) (inl at') = at_one_token stream why other_why pos other_pos at at'
+one_refusal stream why other_why pos other_pos (inl at) (inr at') = absurd (none_whole stream why pos at at'.begins)
+one_refusal stream why other_why pos other_pos (inr at) (inl at') = absurd (none_whole stream other_why other_pos at' at.begins)
+one_refusal stream why other_why pos other_pos (inr at) (inr at') = (at.reason ∙ sym at'.reason, at.place ∙ sym at'.place)

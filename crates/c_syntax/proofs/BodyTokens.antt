@@ -4,11 +4,11 @@ use Rattle.c_lexer.specs.declared.punct.Punct.{Punct}
 use Rattle.c_lexer.specs.declared.punct.Punct.TheVariants as p
 use Rattle.c_lexer.specs.declared.token.Token.{Token}
 use Rattle.c_lexer.specs.declared.token.Body.{Body}
-use Rattle.c_lexer.specs.declared.token.Body.TheVariants as body
+use Rattle.c_lexer.specs.declared.token.Body.TheVariants as lexeme
 use Rattle.c_lexer.specs.declared.word.Word.TheVariants as w
 use Rattle.c_syntax.specs.declared.spelled.Spelled.{Spelled}
 use Rattle.c_syntax.specs.Levels.{expression, assignment}
-use Rattle.c_syntax.specs.Reader.{seen}
+use Rattle.c_syntax.specs.Parser.{next_body}
 use Rattle.c_syntax.specs.ReadToken.{is_mark, is_word, begins_type}
 use Rattle.c_syntax.specs.ReadExpr.{begins_expr}
 use Rattle.c_syntax.specs.ReadBody.{begins_initializer, begins_item, begins_statement_word, begins_statement, begins_block_item, begins_switch_item, goes_item}
@@ -16,7 +16,7 @@ use Rattle.c_syntax.specs.Scopes.{Scope}
 use Rattle.c_syntax.specs.Spelling.{spell}
 use Rattle.c_syntax.specs.SpellingUnit.{spell_initializer, spell_item, spell_declaration, spell_assert, spell_statement, spell_block_item, spell_switch_item}
 use Rattle.c_syntax.specs.Tokens.{mark}
-use Rattle.c_syntax.specs.TreeUnit.{Initializer, Single, Braces, Item, Plain, ForMember, ForIndex, Statement, Block, ExprStmt, If, IfElse, Switch, While, Do, For, Break, Continue, Return, BlockItem, Declared, Asserted, Done, SwitchItem, Case, Default, Within}
+use Rattle.c_syntax.specs.TreeUnit.{Initializer, Single, Braces, Item, Plain, ForMember, ForIndex, Statement, Block, ExprStmt, If, IfElse, Switch, While, Do, For, Break, Continue, Return, BlockItem, Declared, Asserted, Executes, SwitchItem, Case, Default, InBlock}
 use Rattle.c_syntax.specs.WellFormedUnit.{IsInitializer, IsItem, IsStatement, IsBlockItem, IsSwitchItem}
 use Rattle.c_syntax.proofs.Again.{front}
 use Rattle.c_syntax.proofs.FirstLaws.{first_declaration}
@@ -26,27 +26,27 @@ use Rattle.c_syntax.proofs.TokenTests.{is_mark_is}
 
 -- ---- a token that passes one test fails another
 
-pub no_mark : (mark : Punct) (test : Option Body → Bool) (o : Option Body) → test (Some (body.Mark mark)) ≡ false → test o ≡ true → is_mark mark o ≡ false
+pub no_mark : (mark : Punct) (test : Option Body → Bool) (o : Option Body) → test (Some (lexeme.Mark mark)) ≡ false → test o ≡ true → is_mark mark o ≡ false
 no_mark mark test o fails passes = by (is_mark mark o) refl
   where
     by : (b : Bool) → is_mark mark o ≡ b → b ≡ false
     by false e = refl
     by true e = absurd (let same = ap test (is_mark_is mark o e) in let h : true ≡ false = sym passes ∙ same ∙ fails in cc)
 
-pub no_else : (test : Option Body → Bool) (o : Option Body) → test (Some (body.Word w.Else)) ≡ false → test o ≡ true → is_word w.Else o ≡ false
-no_else test (Some (body.Word w.Else)) fails passes = absurd (cc)
+pub no_else : (test : Option Body → Bool) (o : Option Body) → test (Some (lexeme.Word w.Else)) ≡ false → test o ≡ true → is_word w.Else o ≡ false
+no_else test (Some (lexeme.Word w.Else)) fails passes = absurd (cc)
 no_else test o fails passes = refl
 
-pub no_assert : (test : Option Body → Bool) (o : Option Body) → test (Some (body.Word w.StaticAssert)) ≡ false → test o ≡ true → is_word w.StaticAssert o ≡ false
-no_assert test (Some (body.Word w.StaticAssert)) fails passes = absurd (cc)
+pub no_assert : (test : Option Body → Bool) (o : Option Body) → test (Some (lexeme.Word w.StaticAssert)) ≡ false → test o ≡ true → is_word w.StaticAssert o ≡ false
+no_assert test (Some (lexeme.Word w.StaticAssert)) fails passes = absurd (cc)
 no_assert test o fails passes = refl
 
-pub no_case : (test : Option Body → Bool) (o : Option Body) → test (Some (body.Word w.Case)) ≡ false → test o ≡ true → is_word w.Case o ≡ false
-no_case test (Some (body.Word w.Case)) fails passes = absurd (cc)
+pub no_case : (test : Option Body → Bool) (o : Option Body) → test (Some (lexeme.Word w.Case)) ≡ false → test o ≡ true → is_word w.Case o ≡ false
+no_case test (Some (lexeme.Word w.Case)) fails passes = absurd (cc)
 no_case test o fails passes = refl
 
-pub no_default : (test : Option Body → Bool) (o : Option Body) → test (Some (body.Word w.Default)) ≡ false → test o ≡ true → is_word w.Default o ≡ false
-no_default test (Some (body.Word w.Default)) fails passes = absurd (cc)
+pub no_default : (test : Option Body → Bool) (o : Option Body) → test (Some (lexeme.Word w.Default)) ≡ false → test o ≡ true → is_word w.Default o ≡ false
+no_default test (Some (lexeme.Word w.Default)) fails passes = absurd (cc)
 no_default test o fails passes = refl
 
 pub some_token : (test : Option Body → Bool) (o : Option Body) → test None ≡ false → test o ≡ true → is_some o ≡ true
@@ -54,7 +54,7 @@ some_token test None fails passes = absurd (cc)
 some_token test (Some next) fails passes = refl
 
 -- a spelling that is not empty takes a token
-pub takes_some : (tokens rest : List Token) (all : List Spelled) → (all ≡ [] → ⊥) → Takes tokens all rest → (is_some (seen tokens) ≡ true) × (length rest < length tokens)
+pub takes_some : (tokens rest : List Token) (all : List Spelled) → (all ≡ [] → ⊥) → Takes tokens all rest → (is_some (next_body tokens) ≡ true) × (length rest < length tokens)
 takes_some tokens rest [] some all = absurd (some refl)
 takes_some tokens rest (s ∷ more) some all = let f = front tokens rest (s ∷ more) all in (ap is_some f.0, f.3)
 
@@ -64,14 +64,14 @@ or_first : (a b : Bool) → a ≡ true → (a || b) ≡ true
 or_first true b h = refl
 or_first false b h = absurd (cc)
 
-pub initializer_begins : (one : Initializer) (scope : Scope) (tokens rest : List Token) → IsInitializer one scope → Takes tokens (spell_initializer one) rest → begins_initializer scope (seen tokens) ≡ true
+pub initializer_begins : (one : Initializer) (scope : Scope) (tokens rest : List Token) → IsInitializer one scope → Takes tokens (spell_initializer one) rest → begins_initializer scope (next_body tokens) ≡ true
 initializer_begins (Single e) scope tokens rest is all = or_first _ _ (expr_begins e scope assignment tokens rest is all)
 initializer_begins (Braces pos items comma) scope tokens rest is all =
     ap (begins_initializer scope) (front tokens rest (spell_initializer (Braces pos items comma)) all).0
 
-pub item_begins : (one : Item) (scope : Scope) (tokens rest : List Token) → IsItem one scope → Takes tokens (spell_item one) rest → begins_item scope (seen tokens) ≡ true
+pub item_begins : (one : Item) (scope : Scope) (tokens rest : List Token) → IsItem one scope → Takes tokens (spell_item one) rest → begins_item scope (next_body tokens) ≡ true
 item_begins (Plain one) scope tokens rest is all =
-    let h = initializer_begins one scope tokens rest is all in or_first (begins_initializer scope (seen tokens) || is_mark p.Dot (seen tokens)) _ (or_first _ _ h)
+    let h = initializer_begins one scope tokens rest is all in or_first (begins_initializer scope (next_body tokens) || is_mark p.Dot (next_body tokens)) _ (or_first _ _ h)
 item_begins (ForMember pos x one) scope tokens rest is all = ap (begins_item scope) (front tokens rest (spell_item (ForMember pos x one)) all).0
 item_begins (ForIndex pos index one) scope tokens rest is all = ap (begins_item scope) (front tokens rest (spell_item (ForIndex pos index one)) all).0
 
@@ -91,18 +91,18 @@ starts_expr scope o begins none = (
   none,
 )
 
-pub statement_starts : (one : Statement) (scope : Scope) (tokens rest : List Token) → IsStatement one scope → Takes tokens (spell_statement one) rest → Starts scope (seen tokens)
+pub statement_starts : (one : Statement) (scope : Scope) (tokens rest : List Token) → IsStatement one scope → Takes tokens (spell_statement one) rest → Starts scope (next_body tokens)
 statement_starts (Block items) scope tokens rest is all = starts_at scope _ _ (front tokens rest (spell_statement (Block items)) all).0 (refl, refl)
 statement_starts (ExprStmt None) scope tokens rest is all = starts_at scope _ _ (front tokens rest (spell_statement (ExprStmt None)) all).0 (refl, refl)
 statement_starts (ExprStmt (Some e)) scope tokens rest is all =
     let x = takes_parted tokens rest (spell e) (mark p.Semicolon ∷ []) all in
-    starts_expr scope (seen tokens) (expr_begins e scope expression tokens x.mid is x.one) (begins_no_type e scope expression tokens x.mid is x.one)
+    starts_expr scope (next_body tokens) (expr_begins e scope expression tokens x.mid is x.one) (begins_no_type e scope expression tokens x.mid is x.one)
 statement_starts (If pos test then) scope tokens rest is all = starts_at scope _ _ (front tokens rest (spell_statement (If pos test then)) all).0 (refl, refl)
 statement_starts (IfElse pos test then else) scope tokens rest is all = starts_at scope _ _ (front tokens rest (spell_statement (IfElse pos test then else)) all).0 (refl, refl)
 statement_starts (Switch pos test items) scope tokens rest is all = starts_at scope _ _ (front tokens rest (spell_statement (Switch pos test items)) all).0 (refl, refl)
-statement_starts (While pos test turn) scope tokens rest is all = starts_at scope _ _ (front tokens rest (spell_statement (While pos test turn)) all).0 (refl, refl)
-statement_starts (Do pos turn test) scope tokens rest is all = starts_at scope _ _ (front tokens rest (spell_statement (Do pos turn test)) all).0 (refl, refl)
-statement_starts (For pos init test step turn) scope tokens rest is all = starts_at scope _ _ (front tokens rest (spell_statement (For pos init test step turn)) all).0 (refl, refl)
+statement_starts (While pos test body) scope tokens rest is all = starts_at scope _ _ (front tokens rest (spell_statement (While pos test body)) all).0 (refl, refl)
+statement_starts (Do pos body test) scope tokens rest is all = starts_at scope _ _ (front tokens rest (spell_statement (Do pos body test)) all).0 (refl, refl)
+statement_starts (For pos init test step body) scope tokens rest is all = starts_at scope _ _ (front tokens rest (spell_statement (For pos init test step body)) all).0 (refl, refl)
 statement_starts (Break pos) scope tokens rest is all = starts_at scope _ _ (front tokens rest (spell_statement (Break pos)) all).0 (refl, refl)
 statement_starts (Continue pos) scope tokens rest is all = starts_at scope _ _ (front tokens rest (spell_statement (Continue pos)) all).0 (refl, refl)
 statement_starts (Return pos value) scope tokens rest is all = starts_at scope _ _ (front tokens rest (spell_statement (Return pos value)) all).0 (refl, refl)
@@ -116,23 +116,23 @@ type_item scope o begins = or_first (begins_statement scope o || begins_type sco
     or_second true b h = refl
     or_second false b h = h
 
-pub block_item_begins : (one : BlockItem) (scope : Scope) (tokens rest : List Token) → IsBlockItem one scope → Takes tokens (spell_block_item one) rest → begins_block_item scope (seen tokens) ≡ true
+pub block_item_begins : (one : BlockItem) (scope : Scope) (tokens rest : List Token) → IsBlockItem one scope → Takes tokens (spell_block_item one) rest → begins_block_item scope (next_body tokens) ≡ true
 block_item_begins (Declared one) scope tokens rest is all =
-    type_item scope (seen tokens) (first_seen true scope tokens rest (spell_declaration one) (first_declaration one scope is) all)
+    type_item scope (next_body tokens) (first_seen true scope tokens rest (spell_declaration one) (first_declaration one scope is) all)
 block_item_begins (Asserted one) scope tokens rest is all = ap (begins_block_item scope) (front tokens rest (spell_assert one) all).0
-block_item_begins (Done one) scope tokens rest is all =
+block_item_begins (Executes one) scope tokens rest is all =
     let h = statement_starts one scope tokens rest is all in
-    or_first (begins_statement scope (seen tokens) || begins_type scope (seen tokens)) _ (or_first (begins_statement scope (seen tokens)) _ h.0)
+    or_first (begins_statement scope (next_body tokens) || begins_type scope (next_body tokens)) _ (or_first (begins_statement scope (next_body tokens)) _ h.0)
 
-pub switch_item_begins : (one : SwitchItem) (scope : Scope) (tokens rest : List Token) → IsSwitchItem one scope → Takes tokens (spell_switch_item one) rest → begins_switch_item scope (seen tokens) ≡ true
+pub switch_item_begins : (one : SwitchItem) (scope : Scope) (tokens rest : List Token) → IsSwitchItem one scope → Takes tokens (spell_switch_item one) rest → begins_switch_item scope (next_body tokens) ≡ true
 switch_item_begins (Case pos value) scope tokens rest is all = ap (begins_switch_item scope) (front tokens rest (spell_switch_item (Case pos value)) all).0
 switch_item_begins (Default pos) scope tokens rest is all = ap (begins_switch_item scope) (front tokens rest (spell_switch_item (Default pos)) all).0
-switch_item_begins (Within one) scope tokens rest is all =
+switch_item_begins (InBlock one) scope tokens rest is all =
     let h = block_item_begins one scope tokens rest is all in
-    or_first (begins_block_item scope (seen tokens) || is_word w.Case (seen tokens)) _ (or_first (begins_block_item scope (seen tokens)) _ h)
+    or_first (begins_block_item scope (next_body tokens) || is_word w.Case (next_body tokens)) _ (or_first (begins_block_item scope (next_body tokens)) _ h)
 
 -- the block goes on at a token that begins an item, and it is over at its brace
-pub item_goes : (scope : Scope) (test : Option Body → Bool) (o : Option Body) → test None ≡ false → test (Some (body.Mark p.CloseBrace)) ≡ false → test o ≡ true → goes_item scope o ≡ true
+pub item_goes : (scope : Scope) (test : Option Body → Bool) (o : Option Body) → test None ≡ false → test (Some (lexeme.Mark p.CloseBrace)) ≡ false → test o ≡ true → goes_item scope o ≡ true
 item_goes scope test o none brace passes = both (is_some o) (is_mark p.CloseBrace o) (some_token test o none passes) (no_mark p.CloseBrace test o brace passes)
   where
     both : (a b : Bool) → a ≡ true → b ≡ false → (a && not b) ≡ true

@@ -5,7 +5,7 @@ use Rattle.c_lexer.specs.declared.token.Body.{Body}
 use Rattle.c_lexer.specs.declared.token.Token.{Token}
 use Rattle.c_syntax.specs.declared.spelled.Spelled.{Spelled}
 use Rattle.c_syntax.specs.Begin.{Begins}
-use Rattle.c_syntax.specs.Reader.{Unfit, TooDeep, seen, place, tail}
+use Rattle.c_syntax.specs.Parser.{Unfit, TooDeep, next_body, place, tail}
 use Rattle.c_syntax.specs.Tokens.{StandsAt}
 use Rattle.c_syntax.proofs.Contexts.{Completed, Context, refused, too_deep}
 use Rattle.c_syntax.proofs.Found.{Spelt, joined, nothing_spelt}
@@ -57,15 +57,15 @@ module _ {A : Type 0} {Fits : A → Type 0} {tall : A → ℕ} {spelled : A → 
   whole_begins next a more stands fits same = record { next = next; is = refl; stands = stands; high = tall a; completed = record { node = a; more = more; fits = fits; within = omega arith; parts = same } }
 
   -- the token is spelled as the first of that node
-  pub spelt_next : (tokens : List Token) (b : Begun Fits tall spelled (place tokens) (seen tokens)) → Spelt tokens (b.next ∷ []) (tail tokens)
+  pub spelt_next : (tokens : List Token) (b : Begun Fits tall spelled (place tokens) (next_body tokens)) → Spelt tokens (b.next ∷ []) (tail tokens)
   spelt_next tokens b = by tokens b.is b.stands
     where
-      by : (tokens : List Token) → seen tokens ≡ Some b.next.body → StandsAt b.next.place (place tokens) → Spelt tokens (b.next ∷ []) (tail tokens)
+      by : (tokens : List Token) → next_body tokens ≡ Some b.next.body → StandsAt b.next.place (place tokens) → Spelt tokens (b.next ∷ []) (tail tokens)
       by [] is stands = absurd (cc (is))
       by (token ∷ tokens) is stands = record { takes = (cc (is), stands, refl) }
 
   -- the token begins a node, and no height is left for one
-  pub too_deep_here : {most : ℕ} {tokens : List Token} → Completed Fits tall spelled most [] → Begun Fits tall spelled (place tokens) (seen tokens) → Holds (Begins Fits tall spelled) most tokens TooDeep tokens
+  pub too_deep_here : {most : ℕ} {tokens : List Token} → Completed Fits tall spelled most [] → Begun Fits tall spelled (place tokens) (next_body tokens) → Holds (Begins Fits tall spelled) most tokens TooDeep tokens
   too_deep_here {tokens = tokens} c b = too_deep {high = b.high} (nothing_spelt tokens) (spelt_next tokens b) c b.completed
 
 module _ {A B : Type 0} {Fits : A → Type 0} {tall : A → ℕ} {spelled : A → List Spelled} {Fits' : B → Type 0} {tall' : B → ℕ} {spelled' : B → List Spelled} {rise : ℕ → ℕ} {least : ℕ} {front : List Spelled} where
@@ -80,7 +80,7 @@ module _ {A B : Type 0} {Fits : A → Type 0} {tall : A → ℕ} {spelled : A �
 
   -- the token begins a part, and no height is left for one
   pub too_deep_in : {most : ℕ} {tokens mid : List Token} → Context Fits tall spelled Fits' tall' spelled' rise least front → Spelt tokens front mid → Completed Fits' tall' spelled' most front
-      → Begun Fits tall spelled (place mid) (seen mid) → Holds (Begins Fits' tall' spelled') most tokens TooDeep mid
+      → Begun Fits tall spelled (place mid) (next_body mid) → Holds (Begins Fits' tall' spelled') most tokens TooDeep mid
   too_deep_in {mid = mid} context before c b = too_deep before (spelt_next mid b) c (completed_in context b.high (b.next ∷ []) b.completed)
 
 -- what begins a part begins a whole that has nothing before it

@@ -1,12 +1,12 @@
--- What it means that the steps of a reader stopped, and how what begins a part begins the whole.
+-- What it means that the steps of a parser stopped, and how what begins a part begins the whole.
 use Rattle.std.proofs.Common.{◌≡◌, ◌⊎◌, inl, inr, ℕ, zero, suc, ◌≤◌, ◌<◌, max, Bool, true, false, ◌&&◌, not, List, [], ◌∷◌, ◌++◌, length, Option, Some, None, refl, sym, ◌∙◌, ap, subst, append_assoc, arith}
 use Rattle.c_lexer.specs.declared.punct.Punct.{Punct}
 use Rattle.c_lexer.specs.declared.token.Body.{Body}
 use Rattle.c_lexer.specs.declared.token.Token.{Token}
 use Rattle.c_syntax.specs.declared.spelled.Spelled.{Spelled}
 use Rattle.c_syntax.specs.Begin.{Begins}
-use Rattle.c_syntax.specs.Reader.{Why, Unfit, TooDeep, Got, Found, Stopped, Reader, and_then, ◌>>=◌, give, stop, skip, deeper, exactly, seen, tail, go, many, climb, goes_listing, behind_comma, next_listing, more_listed, listed, ones, has_ending}
-use Rattle.c_syntax.specs.ReadExpr.{wanted, begins_expr}
+use Rattle.c_syntax.specs.Parser.{Why, Unfit, TooDeep, Outcome, Found, Stopped, Parser, and_then, ◌>>=◌, pure, fail, skip, deeper, expect, next_body, tail, go, many, climb, goes_listing, behind_comma, next_listing, more_listed, comma_list, ones, has_ending}
+use Rattle.c_syntax.specs.ReadExpr.{expr_lower, begins_expr}
 use Rattle.c_syntax.specs.ReadToken.{is_mark}
 use Rattle.c_syntax.specs.Scopes.{Scope}
 use Rattle.c_syntax.specs.Tokens.{Match, mark}
@@ -15,69 +15,69 @@ use Rattle.c_syntax.proofs.Found.{chosen, bind_found, Spelt, mark_found}
 use Rattle.c_syntax.proofs.Takes.{Takes}
 use Rattle.c_syntax.proofs.Viable.{Holds}
 
--- ---- where the steps of a reader stopped
+-- ---- where the steps of a parser stopped
 
-abbrev OnStopped : {A : Type 0} → (Why → List Token → Type 0) → Got A → Type 0
+abbrev OnStopped : {A : Type 0} → (Why → List Token → Type 0) → Outcome A → Type 0
 OnStopped P (Found a rest) = Unit {0}
 OnStopped P (Stopped why rest) = P why rest
 
 -- what holds of one stop holds of an equal one
-pub stopped : {A : Type 0} (P : Why → List Token → Type 0) {why other : Why} {tokens rest : List Token} → ◌≡◌ {A = Got A} (Stopped why tokens) (Stopped other rest) → P why tokens → P other rest
+pub stopped : {A : Type 0} (P : Why → List Token → Type 0) {why other : Why} {tokens rest : List Token} → ◌≡◌ {A = Outcome A} (Stopped why tokens) (Stopped other rest) → P why tokens → P other rest
 stopped P h x = subst (OnStopped P) h x
 
--- the first of two readers found something, and the second stopped
-pub record Reached {A B : Type 0} (g : Got A) (f : A → Reader B) (why : Why) (rest : List Token) : Type 0 where
+-- the first of two parsers found something, and the second stopped
+pub record Reached {A B : Type 0} (g : Outcome A) (f : A → Parser B) (why : Why) (rest : List Token) : Type 0 where
   pub value : A
   pub mid : List Token
   pub one : g ≡ Found value mid
   pub two : f value mid ≡ Stopped why rest
 
-pub bind_stopped : {A B : Type 0} (g : Got A) (f : A → Reader B) (why : Why) (rest : List Token) → and_then g f ≡ Stopped why rest → (g ≡ Stopped why rest) ⊎ Reached g f why rest
+pub bind_stopped : {A B : Type 0} (g : Outcome A) (f : A → Parser B) (why : Why) (rest : List Token) → and_then g f ≡ Stopped why rest → (g ≡ Stopped why rest) ⊎ Reached g f why rest
 bind_stopped (Found a mid) f why rest h = inr (record { value = a; mid = mid; one = refl; two = h })
-bind_stopped (Stopped why' r) f why rest h = inl (cc (h))
+bind_stopped (Stopped other_why r) f why rest h = inl (cc (h))
 
--- a reader that is followed by one that gives: the first stopped
-pub given_stopped : {A B : Type 0} (g : Got A) (f : A → B) (why : Why) (rest : List Token) → and_then g (λ a. give (f a)) ≡ Stopped why rest → g ≡ Stopped why rest
+-- a parser that is followed by one that gives: the first stopped
+pub given_stopped : {A B : Type 0} (g : Outcome A) (f : A → B) (why : Why) (rest : List Token) → and_then g (λ a. pure (f a)) ≡ Stopped why rest → g ≡ Stopped why rest
 given_stopped (Found a mid) f why rest h = absurd (cc (h))
-given_stopped (Stopped why' r) f why rest h = cc (h)
+given_stopped (Stopped other_why r) f why rest h = cc (h)
 
-pub exactly_stopped : (test : Option Body → Bool) (P : Why → List Token → Type 0) (tokens : List Token) (why : Why) (rest : List Token) → exactly test tokens ≡ Stopped why rest → P Unfit tokens → P why rest
-exactly_stopped test P tokens why rest h unfit =
-    elim (chosen (test (seen tokens)) (skip (give tt)) (stop Unfit) tokens (Stopped why rest) h) [
+pub expect_stopped : (test : Option Body → Bool) (P : Why → List Token → Type 0) (tokens : List Token) (why : Why) (rest : List Token) → expect test tokens ≡ Stopped why rest → P Unfit tokens → P why rest
+expect_stopped test P tokens why rest h unfit =
+    elim (chosen (test (next_body tokens)) (skip (pure tt)) (fail Unfit) tokens (Stopped why rest) h) [
       | inl x ↦ absurd (cc (x.1))
       | inr x ↦ stopped P x.1 unfit
     ]
 
 -- a mark, and then more
-pub mark_stopped : {B : Type 0} (m : Punct) (more : Reader B) (P : Why → List Token → Type 0) (tokens : List Token) (why : Why) (rest : List Token) → and_then (exactly (is_mark m) tokens) (λ _. more) ≡ Stopped why rest
+pub mark_stopped : {B : Type 0} (m : Punct) (more : Parser B) (P : Why → List Token → Type 0) (tokens : List Token) (why : Why) (rest : List Token) → and_then (expect (is_mark m) tokens) (λ _. more) ≡ Stopped why rest
     → P Unfit tokens
     → ((mid : List Token) → Spelt tokens (mark m ∷ []) mid → more mid ≡ Stopped why rest → P why rest)
     → P why rest
 mark_stopped m more P tokens why rest h unfit next =
-    elim (bind_stopped (exactly (is_mark m) tokens) (λ _. more) why rest h) [
-      | inl x ↦ exactly_stopped (is_mark m) P tokens why rest x unfit
+    elim (bind_stopped (expect (is_mark m) tokens) (λ _. more) why rest h) [
+      | inl x ↦ expect_stopped (is_mark m) P tokens why rest x unfit
       | inr x ↦ next x.mid (mark_found m tokens x.mid x.value x.one) x.two
     ]
 
 -- the last mark of a node
-pub close_stopped : {B : Type 0} (m : Punct) (b : B) (P : Why → List Token → Type 0) (tokens : List Token) (why : Why) (rest : List Token) → and_then (exactly (is_mark m) tokens) (λ _. give b) ≡ Stopped why rest → P Unfit tokens → P why rest
-close_stopped m b P tokens why rest h unfit = exactly_stopped (is_mark m) P tokens why rest (given_stopped (exactly (is_mark m) tokens) (λ _. b) why rest h) unfit
+pub close_stopped : {B : Type 0} (m : Punct) (b : B) (P : Why → List Token → Type 0) (tokens : List Token) (why : Why) (rest : List Token) → and_then (expect (is_mark m) tokens) (λ _. pure b) ≡ Stopped why rest → P Unfit tokens → P why rest
+close_stopped m b P tokens why rest h unfit = expect_stopped (is_mark m) P tokens why rest (given_stopped (expect (is_mark m) tokens) (λ _. b) why rest h) unfit
 
-pub deeper_stopped : {A : Type 0} (P : Why → List Token → Type 0) (k : ℕ) (r : Reader A) (tokens : List Token) (why : Why) (rest : List Token) → deeper k r tokens ≡ Stopped why rest
+pub deeper_stopped : {A : Type 0} (P : Why → List Token → Type 0) (k : ℕ) (r : Parser A) (tokens : List Token) (why : Why) (rest : List Token) → deeper k r tokens ≡ Stopped why rest
     → P TooDeep tokens
     → (0 < k → r tokens ≡ Stopped why rest → P why rest)
     → P why rest
 deeper_stopped P zero r tokens why rest h deep next = stopped P h deep
 deeper_stopped P (suc k) r tokens why rest h deep next = next (omega arith) h
 
-pub wanted_stopped : (P : Why → List Token → Type 0) (scope : Scope) (k : ℕ) (r : Reader Expr) (tokens : List Token) (why : Why) (rest : List Token) → wanted scope k r tokens ≡ Stopped why rest
+pub expr_lower_stopped : (P : Why → List Token → Type 0) (scope : Scope) (k : ℕ) (r : Parser Expr) (tokens : List Token) (why : Why) (rest : List Token) → expr_lower scope k r tokens ≡ Stopped why rest
     → P Unfit tokens
-    → (begins_expr scope (seen tokens) ≡ true → P TooDeep tokens)
+    → (begins_expr scope (next_body tokens) ≡ true → P TooDeep tokens)
     → (0 < k → r tokens ≡ Stopped why rest → P why rest)
     → P why rest
-unfolding wanted
-wanted_stopped P scope k r tokens why rest h unfit deep next =
-    elim (chosen (begins_expr scope (seen tokens)) (deeper k r) (stop Unfit) tokens (Stopped why rest) h) [
+unfolding expr_lower
+expr_lower_stopped P scope k r tokens why rest h unfit deep next =
+    elim (chosen (begins_expr scope (next_body tokens)) (deeper k r) (fail Unfit) tokens (Stopped why rest) h) [
       | inl x ↦ deeper_stopped P k r tokens why rest x.1 (deep x.0) next
       | inr x ↦ stopped P x.1 unfit
     ]
@@ -85,15 +85,15 @@ wanted_stopped P scope k r tokens why rest h unfit deep next =
 -- ---- where a list stopped
 
 -- what holds where an element stops, and before an element that is found, by the state after it, holds where the list stops
-module _ {S A : Type 0} (goes : S → Option Body → Bool) (step : S → Reader A) (next : S → A → S)
+module _ {S A : Type 0} (goes : S → Option Body → Bool) (step : S → Parser A) (next : S → A → S)
     (P : S → List Token → Why → List Token → Type 0)
-    (fails : (s : S) (tokens rest : List Token) (why : Why) → goes s (seen tokens) ≡ true → step s tokens ≡ Stopped why rest → P s tokens why rest)
-    (some : (s : S) (tokens mid rest : List Token) (a : A) (why : Why) → goes s (seen tokens) ≡ true → step s tokens ≡ Found a mid → P (next s a) mid why rest → P s tokens why rest) where
+    (fails : (s : S) (tokens rest : List Token) (why : Why) → goes s (next_body tokens) ≡ true → step s tokens ≡ Stopped why rest → P s tokens why rest)
+    (some : (s : S) (tokens mid rest : List Token) (a : A) (why : Why) → goes s (next_body tokens) ≡ true → step s tokens ≡ Found a mid → P (next s a) mid why rest → P s tokens why rest) where
   go_stopped : (n : ℕ) (s : S) (tokens rest : List Token) (why : Why) → go goes step next n s tokens ≡ Stopped why rest → P s tokens why rest
   go_stopped zero s tokens rest why h = absurd (cc (h))
   go_stopped (suc n) s tokens rest why h =
-      elim (chosen (goes s (seen tokens)) _ _ tokens (Stopped why rest) h) [
-        | inl y ↦ elim (bind_stopped (step s tokens) (λ a. go goes step next n (next s a) >>= λ more. give (a ∷ more)) why rest y.1) [
+      elim (chosen (goes s (next_body tokens)) _ _ tokens (Stopped why rest) h) [
+        | inl y ↦ elim (bind_stopped (step s tokens) (λ a. go goes step next n (next s a) >>= λ more. pure (a ∷ more)) why rest y.1) [
           | inl x ↦ fails s tokens rest why y.0 x
           | inr x ↦ some s tokens x.mid rest x.value why y.0 x.one
               (go_stopped n (next s x.value) x.mid rest why (given_stopped (go goes step next n (next s x.value) x.mid) (λ more. x.value ∷ more) why rest x.two))
@@ -106,27 +106,27 @@ module _ {S A : Type 0} (goes : S → Option Body → Bool) (step : S → Reader
   many_stopped s tokens rest why h = go_stopped (suc (length tokens)) s tokens rest why h
 
 -- likewise of what stands behind the first of a list with commas, where the ending never stops
-module _ {S A : Type 0} (is_comma : Option Body → Bool) (ends : Option Body → Bool) (ending : Reader (Unit {0})) (one : S → Reader A) (next : S → A → S)
+module _ {S A : Type 0} (is_comma : Option Body → Bool) (ends : Option Body → Bool) (ending : Parser (Unit {0})) (one : S → Parser A) (next : S → A → S)
     (P : S → List Token → Why → List Token → Type 0)
     (never : (tokens rest : List Token) (why : Why) → ending tokens ≡ Stopped why rest → ⊥)
-    (fails : (s : S) (tokens rest : List Token) (why : Why) → is_comma (seen tokens) ≡ true → one s (tail tokens) ≡ Stopped why rest → P s tokens why rest)
-    (some : (s : S) (tokens mid rest : List Token) (a : A) (why : Why) → is_comma (seen tokens) ≡ true → one s (tail tokens) ≡ Found a mid → P (next s a) mid why rest → P s tokens why rest) where
+    (fails : (s : S) (tokens rest : List Token) (why : Why) → is_comma (next_body tokens) ≡ true → one s (tail tokens) ≡ Stopped why rest → P s tokens why rest)
+    (some : (s : S) (tokens mid rest : List Token) (a : A) (why : Why) → is_comma (next_body tokens) ≡ true → one s (tail tokens) ≡ Found a mid → P (next s a) mid why rest → P s tokens why rest) where
   -- once it is over, nothing stops
   abbrev OnListing : Bool → S → List Token → Why → List Token → Type 0
   OnListing true s tokens why rest = ⊥
   OnListing false s tokens why rest = P s tokens why rest
 
-  listing_fails : (over : Bool) (s : S) (tokens rest : List Token) (why : Why) → not over && is_comma (seen tokens) ≡ true
+  listing_fails : (over : Bool) (s : S) (tokens rest : List Token) (why : Why) → not over && is_comma (next_body tokens) ≡ true
       → behind_comma is_comma ends ending one next (record { state = s; over = over }) tokens ≡ Stopped why rest → OnListing over s tokens why rest
   unfolding behind_comma
   listing_fails true s tokens rest why comma h = absurd (cc (comma))
   listing_fails false s tokens rest why comma h =
-      elim (chosen (ends (seen (tail tokens))) _ _ (tail tokens) (Stopped why rest) h) [
+      elim (chosen (ends (next_body (tail tokens))) _ _ (tail tokens) (Stopped why rest) h) [
         | inl y ↦ absurd (never (tail tokens) rest why (given_stopped (ending (tail tokens)) (λ _. None) why rest y.1))
         | inr y ↦ fails s tokens rest why comma (given_stopped (one s (tail tokens)) (λ a. Some a) why rest y.1)
       ]
 
-  listing_some : (over : Bool) (s : S) (tokens mid rest : List Token) (a : Option A) (why : Why) → not over && is_comma (seen tokens) ≡ true
+  listing_some : (over : Bool) (s : S) (tokens mid rest : List Token) (a : Option A) (why : Why) → not over && is_comma (next_body tokens) ≡ true
       → behind_comma is_comma ends ending one next (record { state = s; over = over }) tokens ≡ Found a mid
       → OnListing (next_listing is_comma ends ending one next (record { state = s; over = over }) a).over (next_listing is_comma ends ending one next (record { state = s; over = over }) a).state mid why rest
       → OnListing over s tokens why rest
@@ -134,21 +134,21 @@ module _ {S A : Type 0} (is_comma : Option Body → Bool) (ends : Option Body �
   listing_some true s tokens mid rest a why comma h then = absurd (cc (comma))
   listing_some false s tokens mid rest None why comma h then = absurd then
   listing_some false s tokens mid rest (Some a) why comma h then =
-      elim (chosen (ends (seen (tail tokens))) _ _ (tail tokens) (Found (Some a) mid) h) [
-        | inl y ↦ let x = bind_found (ending (tail tokens)) (λ _. give None) (Some a) mid y.1 in absurd (cc (x.two))
+      elim (chosen (ends (next_body (tail tokens))) _ _ (tail tokens) (Found (Some a) mid) h) [
+        | inl y ↦ let x = bind_found (ending (tail tokens)) (λ _. pure None) (Some a) mid y.1 in absurd (cc (x.two))
         | inr y ↦
-            (let x = bind_found (one s (tail tokens)) (λ a. give (Some a)) (Some a) mid y.1 in
+            (let x = bind_found (one s (tail tokens)) (λ a. pure (Some a)) (Some a) mid y.1 in
             some s tokens mid rest a why comma (x.one ∙ cc (x.two)) then)
       ]
 
   -- where the first stops, or what stands behind the first
-  pub listed_stopped : (Q : Why → List Token → Type 0) (s : S) (tokens rest : List Token) (why : Why) → listed is_comma ends ending one next s tokens ≡ Stopped why rest
+  pub listed_stopped : (Q : Why → List Token → Type 0) (s : S) (tokens rest : List Token) (why : Why) → comma_list is_comma ends ending one next s tokens ≡ Stopped why rest
       → (one s tokens ≡ Stopped why rest → Q why rest)
       → ((a : A) (mid : List Token) → one s tokens ≡ Found a mid → P (next s a) mid why rest → Q why rest)
       → Q why rest
-  unfolding listed more_listed
+  unfolding comma_list more_listed
   listed_stopped Q s tokens rest why h first behind =
-      elim (bind_stopped (one s tokens) (λ first. more_listed is_comma ends ending one next (next s first) >>= λ rest. give (first ∷ ones rest, has_ending rest)) why rest h) [
+      elim (bind_stopped (one s tokens) (λ first. more_listed is_comma ends ending one next (next s first) >>= λ rest. pure (first ∷ ones rest, has_ending rest)) why rest h) [
         | inl x ↦ first x
         | inr x ↦ behind x.value x.mid x.one
             (many_stopped (goes_listing is_comma ends ending one next) (behind_comma is_comma ends ending one next) (next_listing is_comma ends ending one next) (λ l. OnListing l.over l.state)
@@ -161,19 +161,19 @@ module _ {S A : Type 0} (is_comma : Option Body → Bool) (ends : Option Body �
 -- ---- where one node around another stopped
 
 -- what is asked at an operator behind a tree of which P holds: where it stops, and that no height may be left
-pub climb_stopped : {A : Type 0} (goes : A → Option Body → Bool) (fits : A → Bool) (wrap : A → Reader A) (P : A → List Token → Type 0) (Q : Why → List Token → Type 0)
-    → ((left a : A) (tokens mid : List Token) → goes left (seen tokens) ≡ true → fits left ≡ true → wrap left tokens ≡ Found a mid → P left tokens → P a mid)
-    → ((left : A) (tokens rest : List Token) (why : Why) → goes left (seen tokens) ≡ true → fits left ≡ true → wrap left tokens ≡ Stopped why rest → P left tokens → Q why rest)
-    → ((left : A) (tokens : List Token) → goes left (seen tokens) ≡ true → P left tokens → Q TooDeep tokens)
+pub climb_stopped : {A : Type 0} (goes : A → Option Body → Bool) (fits : A → Bool) (wrap : A → Parser A) (P : A → List Token → Type 0) (Q : Why → List Token → Type 0)
+    → ((left a : A) (tokens mid : List Token) → goes left (next_body tokens) ≡ true → fits left ≡ true → wrap left tokens ≡ Found a mid → P left tokens → P a mid)
+    → ((left : A) (tokens rest : List Token) (why : Why) → goes left (next_body tokens) ≡ true → fits left ≡ true → wrap left tokens ≡ Stopped why rest → P left tokens → Q why rest)
+    → ((left : A) (tokens : List Token) → goes left (next_body tokens) ≡ true → P left tokens → Q TooDeep tokens)
     → (n : ℕ) (left : A) (tokens rest : List Token) (why : Why) → P left tokens → climb goes fits wrap n left tokens ≡ Stopped why rest → Q why rest
 unfolding climb
 climb_stopped goes fits wrap P Q turn fails deep zero left tokens rest why holds h =
-    elim (chosen (goes left (seen tokens)) _ _ tokens (Stopped why rest) h) [
+    elim (chosen (goes left (next_body tokens)) _ _ tokens (Stopped why rest) h) [
       | inl y ↦ stopped Q y.1 (deep left tokens y.0 holds)
       | inr y ↦ absurd (cc (y.1))
     ]
 climb_stopped goes fits wrap P Q turn fails deep (suc n) left tokens rest why holds h =
-    elim (chosen (goes left (seen tokens)) _ _ tokens (Stopped why rest) h) [
+    elim (chosen (goes left (next_body tokens)) _ _ tokens (Stopped why rest) h) [
       | inl y ↦ elim (chosen (fits left) _ _ tokens (Stopped why rest) y.1) [
         | inl z ↦ elim (bind_stopped (wrap left tokens) (climb goes fits wrap n) why rest z.1) [
           | inl x ↦ fails left tokens rest why y.0 z.0 x holds

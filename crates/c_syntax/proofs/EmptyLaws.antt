@@ -2,7 +2,7 @@
 use Rattle.std.proofs.Common.{◌≡◌, Bool, true, false, List, [], ◌∷◌, ◌++◌, refl}
 use Rattle.c_syntax.specs.declared.spelled.Spelled.{Spelled}
 use Rattle.c_syntax.specs.Tree.{Declarator, Omitted, Name, DParen, PointerTo, ArrayOf, FunctionOf}
-use Rattle.c_syntax.specs.TreeUnit.{Initializer, Single, Braces, Item, Plain, ForMember, ForIndex, Statement, Block, ExprStmt, If, IfElse, Switch, While, Do, For, Break, Continue, Return, BlockItem, Declared, Asserted, Done, SwitchItem, Case, Default, Within, External, Defines, Declaring, Asserting, Tree}
+use Rattle.c_syntax.specs.TreeUnit.{Initializer, Single, Braces, Item, Plain, ForMember, ForIndex, Statement, Block, ExprStmt, If, IfElse, Switch, While, Do, For, Break, Continue, Return, BlockItem, Declared, Asserted, Executes, SwitchItem, Case, Default, InBlock, External, Defines, Declaring, Asserting, Tree}
 use Rattle.c_syntax.specs.First.{IsFirst}
 use Rattle.c_syntax.specs.Scopes.{Scope, predeclared}
 use Rattle.c_syntax.specs.Spelling.{spell_declarator}
@@ -48,9 +48,9 @@ some_statement (ExprStmt expr) scope is e = more_some _ _ _ e
 some_statement (If pos test then) scope is e = cc (e)
 some_statement (IfElse pos test then else) scope is e = cc (e)
 some_statement (Switch pos test items) scope is e = cc (e)
-some_statement (While pos test turn) scope is e = cc (e)
-some_statement (Do pos turn test) scope is e = cc (e)
-some_statement (For pos init test step turn) scope is e = cc (e)
+some_statement (While pos test body) scope is e = cc (e)
+some_statement (Do pos body test) scope is e = cc (e)
+some_statement (For pos init test step body) scope is e = cc (e)
 some_statement (Break pos) scope is e = cc (e)
 some_statement (Continue pos) scope is e = cc (e)
 some_statement (Return pos value) scope is e = cc (e)
@@ -59,12 +59,12 @@ pub some_block_item : (item : BlockItem) (scope : Scope) → IsBlockItem item sc
 some_block_item (Declared declaration) scope is e =
     some_first true scope _ (first_declaration declaration scope is) e
 some_block_item (Asserted assert) scope is e = cc (e)
-some_block_item (Done statement) scope is e = some_statement statement scope is e
+some_block_item (Executes statement) scope is e = some_statement statement scope is e
 
 pub some_switch_item : (item : SwitchItem) (scope : Scope) → IsSwitchItem item scope → spell_switch_item item ≡ [] → ⊥
 some_switch_item (Case pos value) scope is e = cc (e)
 some_switch_item (Default pos) scope is e = cc (e)
-some_switch_item (Within item) scope is e = some_block_item item scope is e
+some_switch_item (InBlock item) scope is e = some_block_item item scope is e
 
 pub some_external : (external : External) (scope : Scope) → IsExternal external scope → spell_external external ≡ [] → ⊥
 some_external (Defines function) scope is e = more_some _ _ _ e

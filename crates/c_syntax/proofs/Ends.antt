@@ -4,7 +4,7 @@ use borrow.Author.Tests.{le-leb, lt-leb, leb-true}
 use Rattle.c_lexer.specs.declared.punct.Punct.{Punct}
 use Rattle.c_lexer.specs.declared.punct.Punct.TheVariants as p
 use Rattle.c_lexer.specs.declared.token.Token.{Token}
-use Rattle.c_lexer.specs.declared.token.Body.TheVariants as body
+use Rattle.c_lexer.specs.declared.token.Body.TheVariants as lexeme
 use Rattle.c_syntax.specs.declared.operator.Arithmetic.{Arithmetic}
 use Rattle.c_syntax.specs.declared.operator.Arithmetic.TheVariants as a
 use Rattle.c_syntax.specs.declared.operator.Comparison.{Comparison}
@@ -12,9 +12,9 @@ use Rattle.c_syntax.specs.declared.operator.Comparison.TheVariants as c
 use Rattle.c_syntax.specs.declared.operator.Infix.{Infix}
 use Rattle.c_syntax.specs.declared.operator.Infix.TheVariants as between
 use Rattle.c_syntax.specs.Levels.{conditional, cast, infix_level}
-use Rattle.c_syntax.specs.Operators.{arithmetic_token, compound_token, comparison_token, infix_token}
-use Rattle.c_syntax.specs.Reader.{seen}
-use Rattle.c_syntax.specs.ReadExpr.{Readers, goes_postfix, goes_between}
+use Rattle.c_syntax.specs.Operators.{arithmetic_token, assignment_token, comparison_token, infix_token}
+use Rattle.c_syntax.specs.Parser.{next_body}
+use Rattle.c_syntax.specs.ReadExpr.{Parsers, goes_postfix, goes_between}
 use Rattle.c_syntax.specs.ReadToken.{is_mark, is_literal, infix_of}
 use Rattle.c_syntax.specs.Tree.{Expr}
 use Rattle.c_syntax.proofs.Full.{EndsExpr}
@@ -22,7 +22,7 @@ use Rattle.c_syntax.proofs.LevelLaws.{infix_low}
 
 -- ---- operators between operands, read again
 
-arithmetic_again : (operator : Arithmetic) → infix_of (Some (body.Mark (arithmetic_token operator))) ≡ Some (between.Arithmetic operator)
+arithmetic_again : (operator : Arithmetic) → infix_of (Some (lexeme.Mark (arithmetic_token operator))) ≡ Some (between.Arithmetic operator)
 arithmetic_again a.Multiply = refl
 arithmetic_again a.Divide = refl
 arithmetic_again a.Remainder = refl
@@ -34,7 +34,7 @@ arithmetic_again a.BitAnd = refl
 arithmetic_again a.BitXor = refl
 arithmetic_again a.BitOr = refl
 
-compound_again : (operator : Arithmetic) → infix_of (Some (body.Mark (compound_token operator))) ≡ Some (between.AssignOp operator)
+compound_again : (operator : Arithmetic) → infix_of (Some (lexeme.Mark (assignment_token operator))) ≡ Some (between.AssignOp operator)
 compound_again a.Multiply = refl
 compound_again a.Divide = refl
 compound_again a.Remainder = refl
@@ -46,7 +46,7 @@ compound_again a.BitAnd = refl
 compound_again a.BitXor = refl
 compound_again a.BitOr = refl
 
-comparison_again : (operator : Comparison) → infix_of (Some (body.Mark (comparison_token operator))) ≡ Some (between.Comparison operator)
+comparison_again : (operator : Comparison) → infix_of (Some (lexeme.Mark (comparison_token operator))) ≡ Some (between.Comparison operator)
 comparison_again c.Less = refl
 comparison_again c.Greater = refl
 comparison_again c.LessEqual = refl
@@ -54,7 +54,7 @@ comparison_again c.GreaterEqual = refl
 comparison_again c.Equal = refl
 comparison_again c.NotEqual = refl
 
-pub infix_again : (operator : Infix) → infix_of (Some (body.Mark (infix_token operator))) ≡ Some operator
+pub infix_again : (operator : Infix) → infix_of (Some (lexeme.Mark (infix_token operator))) ≡ Some operator
 infix_again (between.Arithmetic operator) = arithmetic_again operator
 infix_again (between.Comparison operator) = comparison_again operator
 infix_again between.AndAlso = refl
@@ -63,8 +63,8 @@ infix_again between.Assign = refl
 infix_again (between.AssignOp operator) = compound_again operator
 infix_again between.Comma = refl
 
-module _ (k : ℕ) (low : Readers) (left : Expr) where
-  arithmetic_ends : (operator : Arithmetic) → goes_postfix left (Some (body.Mark (arithmetic_token operator))) ≡ false
+module _ (k : ℕ) (low : Parsers) (left : Expr) where
+  arithmetic_ends : (operator : Arithmetic) → goes_postfix left (Some (lexeme.Mark (arithmetic_token operator))) ≡ false
   arithmetic_ends a.Multiply = refl
   arithmetic_ends a.Divide = refl
   arithmetic_ends a.Remainder = refl
@@ -76,7 +76,7 @@ module _ (k : ℕ) (low : Readers) (left : Expr) where
   arithmetic_ends a.BitXor = refl
   arithmetic_ends a.BitOr = refl
 
-  compound_ends : (operator : Arithmetic) → goes_postfix left (Some (body.Mark (compound_token operator))) ≡ false
+  compound_ends : (operator : Arithmetic) → goes_postfix left (Some (lexeme.Mark (assignment_token operator))) ≡ false
   compound_ends a.Multiply = refl
   compound_ends a.Divide = refl
   compound_ends a.Remainder = refl
@@ -88,7 +88,7 @@ module _ (k : ℕ) (low : Readers) (left : Expr) where
   compound_ends a.BitXor = refl
   compound_ends a.BitOr = refl
 
-  comparison_ends : (operator : Comparison) → goes_postfix left (Some (body.Mark (comparison_token operator))) ≡ false
+  comparison_ends : (operator : Comparison) → goes_postfix left (Some (lexeme.Mark (comparison_token operator))) ≡ false
   comparison_ends c.Less = refl
   comparison_ends c.Greater = refl
   comparison_ends c.LessEqual = refl
@@ -96,7 +96,7 @@ module _ (k : ℕ) (low : Readers) (left : Expr) where
   comparison_ends c.Equal = refl
   comparison_ends c.NotEqual = refl
 
-  infix_ends : (operator : Infix) → goes_postfix left (Some (body.Mark (infix_token operator))) ≡ false
+  infix_ends : (operator : Infix) → goes_postfix left (Some (lexeme.Mark (infix_token operator))) ≡ false
   infix_ends (between.Arithmetic operator) = arithmetic_ends operator
   infix_ends (between.Comparison operator) = comparison_ends operator
   infix_ends between.AndAlso = refl
@@ -107,7 +107,7 @@ module _ (k : ℕ) (low : Readers) (left : Expr) where
 
 -- ---- tests
 
-mark_no_literal : (wide : Bool) (mark : Punct) → is_literal wide (Some (body.Mark mark)) ≡ false
+mark_no_literal : (wide : Bool) (mark : Punct) → is_literal wide (Some (lexeme.Mark mark)) ≡ false
 mark_no_literal true mark = refl
 mark_no_literal false mark = refl
 
@@ -127,7 +127,7 @@ fewer false weak other leads h = refl
 higher_test : (level higher n : ℕ) → level ≤ higher → nat_le higher n ≡ true → nat_le level n ≡ true
 higher_test level higher n low h = let e = leb-true higher n h in le-leb level n (omega arith)
 
-module _ (k : ℕ) (low : Readers) (left : Expr) where
+module _ (k : ℕ) (low : Parsers) (left : Expr) where
   -- below the level that is wanted
   between_below : (level : ℕ) (operator : Infix) (question : Bool) → infix_level operator < level → goes_between level left (Some operator) question ≡ false
   between_below level operator question below = first_false _ _ (lt-leb level (infix_level operator) below)
@@ -147,28 +147,28 @@ module _ (k : ℕ) (low : Readers) (left : Expr) where
 
 -- ---- what follows an expression
 
-pub ends_closed : (level : ℕ) (tokens : List Token) (mark : Punct) → seen tokens ≡ Some (body.Mark mark) → ((k : ℕ) (low : Readers) (left : Expr) → goes_postfix left (Some (body.Mark mark)) ≡ false)
-    → infix_of (Some (body.Mark mark)) ≡ None → is_mark p.Question (Some (body.Mark mark)) ≡ false → EndsExpr level tokens
+pub ends_closed : (level : ℕ) (tokens : List Token) (mark : Punct) → next_body tokens ≡ Some (lexeme.Mark mark) → ((k : ℕ) (low : Parsers) (left : Expr) → goes_postfix left (Some (lexeme.Mark mark)) ≡ false)
+    → infix_of (Some (lexeme.Mark mark)) ≡ None → is_mark p.Question (Some (lexeme.Mark mark)) ≡ false → EndsExpr level tokens
 ends_closed level tokens mark e no_postfix no_infix no_question = record {
   no_literal = λ wide. ap (is_literal wide) e ∙ mark_no_literal wide mark;
   no_postfix = λ k low left. ap (goes_postfix left) e ∙ no_postfix k low left;
   no_infix = λ k low left.
       ap (λ o. goes_between level left (infix_of o) (is_mark p.Question o)) e
-      ∙ ap (λ operator. goes_between level left operator (is_mark p.Question (Some (body.Mark mark)))) no_infix
+      ∙ ap (λ operator. goes_between level left operator (is_mark p.Question (Some (lexeme.Mark mark)))) no_infix
       ∙ ap (λ question. goes_between level left None question) no_question;
 }
 
-pub ends_infix : (level : ℕ) (tokens : List Token) (operator : Infix) → seen tokens ≡ Some (body.Mark (infix_token operator)) → infix_level operator < level → EndsExpr level tokens
+pub ends_infix : (level : ℕ) (tokens : List Token) (operator : Infix) → next_body tokens ≡ Some (lexeme.Mark (infix_token operator)) → infix_level operator < level → EndsExpr level tokens
 ends_infix level tokens operator e below = record {
   no_literal = λ wide. ap (is_literal wide) e ∙ mark_no_literal wide (infix_token operator);
   no_postfix = λ k low left. ap (goes_postfix left) e ∙ infix_ends k low left operator;
   no_infix = λ k low left.
       ap (λ o. goes_between level left (infix_of o) (is_mark p.Question o)) e
-      ∙ ap (λ m. goes_between level left m (is_mark p.Question (Some (body.Mark (infix_token operator))))) (infix_again operator)
-      ∙ between_below k low left level operator (is_mark p.Question (Some (body.Mark (infix_token operator)))) below;
+      ∙ ap (λ m. goes_between level left m (is_mark p.Question (Some (lexeme.Mark (infix_token operator))))) (infix_again operator)
+      ∙ between_below k low left level operator (is_mark p.Question (Some (lexeme.Mark (infix_token operator)))) below;
 }
 
-pub ends_question : (level : ℕ) (tokens : List Token) → seen tokens ≡ Some (body.Mark p.Question) → conditional < level → EndsExpr level tokens
+pub ends_question : (level : ℕ) (tokens : List Token) → next_body tokens ≡ Some (lexeme.Mark p.Question) → conditional < level → EndsExpr level tokens
 ends_question level tokens e below = record {
   no_literal = λ wide. ap (is_literal wide) e ∙ mark_no_literal wide p.Question;
   no_postfix = λ k low left. ap (goes_postfix left) e;
@@ -180,7 +180,7 @@ pub ends_up : (level higher : ℕ) (rest : List Token) → level ≤ higher → 
 ends_up level higher rest below ends = record {
   no_literal = ends.no_literal;
   no_postfix = ends.no_postfix;
-  no_infix = λ k low left. between_up k low left level higher (infix_of (seen rest)) (is_mark p.Question (seen rest)) below (ends.no_infix k low left);
+  no_infix = λ k low left. between_up k low left level higher (infix_of (next_body rest)) (is_mark p.Question (next_body rest)) below (ends.no_infix k low left);
 }
 
 -- no operator stands between operands at these levels
@@ -188,9 +188,9 @@ pub ends_high : (level higher : ℕ) (rest : List Token) → cast ≤ higher →
 ends_high level higher rest high ends = record {
   no_literal = ends.no_literal;
   no_postfix = ends.no_postfix;
-  no_infix = λ k low left. by k low left (infix_of (seen rest)) (is_mark p.Question (seen rest));
+  no_infix = λ k low left. by k low left (infix_of (next_body rest)) (is_mark p.Question (next_body rest));
 }
   where
-    by : (k : ℕ) (low : Readers) (left : Expr) (operator : Option Infix) (question : Bool) → goes_between higher left operator question ≡ false
+    by : (k : ℕ) (low : Parsers) (left : Expr) (operator : Option Infix) (question : Bool) → goes_between higher left operator question ≡ false
     by k low left None question = between_question k low left higher question (omega arith)
     by k low left (Some operator) question = between_below k low left higher operator question (omega (arith, infix_low operator))

@@ -7,7 +7,7 @@ use Rattle.c_syntax.specs.declared.operator.Infix.TheVariants as between
 use Rattle.c_syntax.specs.declared.operator.Prefix.TheVariants.{Minus, SizeExpr}
 use Rattle.c_syntax.specs.declared.specifier.BasicWord.TheVariants.{Int, Unsigned}
 use Rattle.c_syntax.specs.declared.specifier.Qualifier.TheVariants as qualifier
-use Rattle.c_syntax.specs.Tree.{Expr, Id, Call, Prefix', Cast, Infix', NoExpr, MoreExprs, Without, Type', Specifiers, Qualifier', BasicWord', Enum, TypedefName, NoSpecifier, MoreSpecifiers, Enumerates, NoEnumerator, MoreEnumerators, Omitted, Name, DParen, PointerTo, ArrayOf, FunctionOf, Param, NoParameter, MoreParameters}
+use Rattle.c_syntax.specs.Tree.{Expr, Id, Call, PrefixOp, Cast, InfixOp, NoExpr, MoreExprs, Without, NamedType, Specifiers, TypeQualifier, BasicType, Enum, TypedefName, NoSpecifier, MoreSpecifiers, Enumerates, NoEnumerator, MoreEnumerators, Omitted, Name, DParen, PointerTo, ArrayOf, FunctionOf, Param, NoParameter, MoreParameters}
 use Rattle.c_syntax.specs.TreeUnit.{Statement, ExprStmt, If, IfElse, While, Do}
 use Rattle.c_syntax.specs.Levels.{expression}
 use Rattle.c_syntax.specs.Scopes.{Scope}
@@ -31,10 +31,10 @@ abbrev pub t : Expr
 t = Id here (codes "T")
 
 abbrev minus : Expr → Expr → Expr
-minus left right = Infix' here (between.Arithmetic Subtract) left right
+minus left right = InfixOp here (between.Arithmetic Subtract) left right
 
 abbrev pub times : Expr → Expr → Expr
-times left right = Infix' here (between.Arithmetic Multiply) left right
+times left right = InfixOp here (between.Arithmetic Multiply) left right
 
 -- ---- precedence and association
 
@@ -54,21 +54,21 @@ pub looser : IsExpr (times a (minus a a)) [] expression → ⊥
 looser is = omega (arith, is.2.0)
 
 -- f(a, a) has two arguments, a comma expression is none
-pub comma_argument : IsExpr (Call here a (MoreExprs (Infix' here between.Comma a a) NoExpr)) [] expression → ⊥
+pub comma_argument : IsExpr (Call here a (MoreExprs (InfixOp here between.Comma a a) NoExpr)) [] expression → ⊥
 comma_argument is = omega (arith, is.2.0.0)
 
 -- -a = a is well-formed, and is refused by a later rule; -a - a = a isn't
-pub assigned : IsExpr (Infix' here between.Assign (Prefix' here Minus a) a) [] expression
+pub assigned : IsExpr (InfixOp here between.Assign (PrefixOp here Minus a) a) [] expression
 assigned = (omega arith, (omega arith, refl), refl)
 
-pub assigned_sum : IsExpr (Infix' here between.Assign (minus a a) a) [] expression → ⊥
+pub assigned_sum : IsExpr (InfixOp here between.Assign (minus a a) a) [] expression → ⊥
 assigned_sum is = omega (arith, is.1.0)
 
 abbrev pub int : Specifiers
-int = MoreSpecifiers (BasicWord' here Int) NoSpecifier
+int = MoreSpecifiers (BasicType here Int) NoSpecifier
 
 -- sizeof (int) * a is no cast under sizeof
-pub sizeof_cast : IsExpr (Prefix' here SizeExpr (Cast here (Type' int Omitted) a)) [] expression → ⊥
+pub sizeof_cast : IsExpr (PrefixOp here SizeExpr (Cast here (NamedType int Omitted) a)) [] expression → ⊥
 sizeof_cast is = omega (arith, is.1.0)
 
 -- ---- names
@@ -84,28 +84,28 @@ abbrev pub named : Specifiers
 named = MoreSpecifiers (TypedefName here (codes "T")) NoSpecifier
 
 -- (T) - a
-pub cast_of_type : IsExpr (Cast here (Type' named Omitted) (Prefix' here Minus a)) typed expression
+pub cast_of_type : IsExpr (Cast here (NamedType named Omitted) (PrefixOp here Minus a)) typed expression
 cast_of_type = (omega arith, (inr (refl, refl), (refl, tt), tt, refl), (omega arith, refl))
 
-pub cast_of_hidden : IsExpr (Cast here (Type' named Omitted) (Prefix' here Minus a)) hidden expression → ⊥
+pub cast_of_hidden : IsExpr (Cast here (NamedType named Omitted) (PrefixOp here Minus a)) hidden expression → ⊥
 cast_of_hidden is = cc (is.1.1.0)
 
 -- (enum {T})a - T, where T was a type before
-pub enumerator_hides : IsExpr (minus (Cast here (Type' (MoreSpecifiers (Enum here None (MoreEnumerators (Enumerates here (codes "T") Without) NoEnumerator) false) NoSpecifier) Omitted) a) t) typed expression
+pub enumerator_hides : IsExpr (minus (Cast here (NamedType (MoreSpecifiers (Enum here None (MoreEnumerators (Enumerates here (codes "T") Without) NoEnumerator) false) NoSpecifier) Omitted) a) t) typed expression
 enumerator_hides = (omega arith, (omega arith, (inr (refl, refl), ((tt, (tt, tt)), tt), tt, refl), refl), refl)
 
 -- ---- specifiers and declarators
 
 -- unsigned T has T for no type, and const alone no type
-pub unsigned_type : SpecifyOneType (MoreSpecifiers (BasicWord' here Unsigned) named) → ⊥
+pub unsigned_type : SpecifyOneType (MoreSpecifiers (BasicType here Unsigned) named) → ⊥
 unsigned_type (inl one) = cc (one.1)
 unsigned_type (inr one) = cc (one.0)
 
-pub const_alone : SpecifyOneType (MoreSpecifiers (Qualifier' here qualifier.Const) NoSpecifier) → ⊥
+pub const_alone : SpecifyOneType (MoreSpecifiers (TypeQualifier here qualifier.Const) NoSpecifier) → ⊥
 const_alone (inl one) = omega (arith, one.0)
 const_alone (inr one) = cc (one.1)
 
-pub const_type : SpecifyOneType (MoreSpecifiers (Qualifier' here qualifier.Const) named)
+pub const_type : SpecifyOneType (MoreSpecifiers (TypeQualifier here qualifier.Const) named)
 const_type = inr (refl, refl)
 
 -- the parameter int (T): a function that takes a T, or T itself where T is no type

@@ -12,7 +12,7 @@ use Rattle.c_syntax.specs.declared.specifier.BasicWord.TheVariants as basic
 use Rattle.c_syntax.specs.declared.specifier.CompoundWord.{CompoundWord}
 use Rattle.c_syntax.specs.declared.specifier.CompoundWord.TheVariants as compound
 use Rattle.c_syntax.specs.declared.spelled.Spelled.{Spelled}
-use Rattle.c_syntax.specs.Tree.{Expr, Const, Id, Text, Paren, Index, Call, Member, Postfix', Prefix', Measure', Cast, Infix', Cond, TypeName, Type', Specifier, Storage', Qualifier', Inline, BasicWord', CompoundTag, Compound, EnumTag, Enum, TypedefName, Specifiers, NoSpecifier, MoreSpecifiers, MemberDeclaration, Declares, Parameter, Param}
+use Rattle.c_syntax.specs.Tree.{Expr, Const, Id, Text, Paren, Index, Call, Member, PostfixOp, PrefixOp, MeasureOp, Cast, InfixOp, Cond, TypeName, NamedType, Specifier, StorageClass, TypeQualifier, Inline, BasicType, CompoundTag, Compound, EnumTag, Enum, TypedefName, Specifiers, NoSpecifier, MoreSpecifiers, MemberDeclaration, Declares, Parameter, Param}
 use Rattle.c_syntax.specs.TreeUnit.{Declaration}
 use Rattle.c_syntax.specs.First.{begins_specifier, IsFirst, is_specifier_word}
 use Rattle.c_syntax.specs.Operators.{prefix_token, measure_word, compound_word}
@@ -61,11 +61,11 @@ first_expr (Index pos array index) scope level is =
 first_expr (Call pos function arguments) scope level is =
     first_more false scope _ _ (first_more false scope _ _ (first_expr function scope _ is.1))
 first_expr (Member pos access whole x) scope level is = first_more false scope _ _ (first_expr whole scope _ is.1)
-first_expr (Postfix' pos operator operand) scope level is = first_more false scope _ _ (first_expr operand scope _ is.1)
-first_expr (Prefix' pos operator operand) scope level is = first_prefix scope operator
-first_expr (Measure' pos operator type) scope level is = first_measure operator
+first_expr (PostfixOp pos operator operand) scope level is = first_more false scope _ _ (first_expr operand scope _ is.1)
+first_expr (PrefixOp pos operator operand) scope level is = first_prefix scope operator
+first_expr (MeasureOp pos operator type) scope level is = first_measure operator
 first_expr (Cast pos type operand) scope level is = refl
-first_expr (Infix' pos operator left right) scope level is = first_more false scope _ _ (first_expr left scope _ is.1)
+first_expr (InfixOp pos operator left right) scope level is = first_more false scope _ _ (first_expr left scope _ is.1)
 first_expr (Cond pos test then else) scope level is =
     first_more false scope _ _ (first_more false scope _ _ (first_expr test scope _ is.1))
 
@@ -77,23 +77,23 @@ first_compound compound.Union = refl
 
 first_specifier : (specifier : Specifier) (scope : Scope)
     → IsSpecifier specifier scope → IsFirst true scope (spell_specifier specifier)
-first_specifier (Storage' pos storage.Typedef) scope is = refl
-first_specifier (Storage' pos storage.Extern) scope is = refl
-first_specifier (Storage' pos storage.Static) scope is = refl
-first_specifier (Storage' pos storage.Auto) scope is = refl
-first_specifier (Storage' pos storage.Register) scope is = refl
-first_specifier (Qualifier' pos qualifier.Const) scope is = refl
-first_specifier (Qualifier' pos qualifier.Restrict) scope is = refl
-first_specifier (Qualifier' pos qualifier.Volatile) scope is = refl
+first_specifier (StorageClass pos storage.Typedef) scope is = refl
+first_specifier (StorageClass pos storage.Extern) scope is = refl
+first_specifier (StorageClass pos storage.Static) scope is = refl
+first_specifier (StorageClass pos storage.Auto) scope is = refl
+first_specifier (StorageClass pos storage.Register) scope is = refl
+first_specifier (TypeQualifier pos qualifier.Const) scope is = refl
+first_specifier (TypeQualifier pos qualifier.Restrict) scope is = refl
+first_specifier (TypeQualifier pos qualifier.Volatile) scope is = refl
 first_specifier (Inline pos) scope is = refl
-first_specifier (BasicWord' pos basic.Void) scope is = refl
-first_specifier (BasicWord' pos basic.Char) scope is = refl
-first_specifier (BasicWord' pos basic.Short) scope is = refl
-first_specifier (BasicWord' pos basic.Int) scope is = refl
-first_specifier (BasicWord' pos basic.Long) scope is = refl
-first_specifier (BasicWord' pos basic.Signed) scope is = refl
-first_specifier (BasicWord' pos basic.Unsigned) scope is = refl
-first_specifier (BasicWord' pos basic.Bool) scope is = refl
+first_specifier (BasicType pos basic.Void) scope is = refl
+first_specifier (BasicType pos basic.Char) scope is = refl
+first_specifier (BasicType pos basic.Short) scope is = refl
+first_specifier (BasicType pos basic.Int) scope is = refl
+first_specifier (BasicType pos basic.Long) scope is = refl
+first_specifier (BasicType pos basic.Signed) scope is = refl
+first_specifier (BasicType pos basic.Unsigned) scope is = refl
+first_specifier (BasicType pos basic.Bool) scope is = refl
 first_specifier (CompoundTag pos word tag) scope is = first_compound word
 first_specifier (Compound pos word tag members) scope is = first_compound word
 first_specifier (EnumTag pos tag) scope is = refl
@@ -116,7 +116,7 @@ first_declaration declaration scope is =
     first_more true scope _ _ (first_more true scope _ _ (first_specifiers declaration.specifiers scope is.0 is.1))
 
 pub first_type_name : (type : TypeName) (scope : Scope) → IsTypeName type scope → IsFirst true scope (spell_type_name type)
-first_type_name (Type' specifiers declarator) scope is =
+first_type_name (NamedType specifiers declarator) scope is =
     first_more true scope _ _ (first_specifiers specifiers scope is.0 is.1)
 
 pub first_parameter : (parameter : Parameter) (scope : Scope)

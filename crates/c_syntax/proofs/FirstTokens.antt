@@ -2,7 +2,7 @@
 use Rattle.std.proofs.Common.{◌≡◌, ◌<◌, ℕ, length, Bool, true, false, not, List, [], ◌∷◌, ◌++◌, Option, Some, refl, ◌∙◌, ap}
 use Rattle.critical_table.specs.declared.pos.Pos.{Pos}
 use Rattle.c_lexer.specs.declared.token.Token.{Token}
-use Rattle.c_lexer.specs.declared.token.Body.TheVariants as body
+use Rattle.c_lexer.specs.declared.token.Body.TheVariants as lexeme
 use Rattle.c_syntax.specs.declared.expression.Constant.TheVariants as constant
 use Rattle.c_syntax.specs.declared.operator.Measure.{Measure}
 use Rattle.c_syntax.specs.declared.operator.Measure.TheVariants as measure
@@ -13,18 +13,18 @@ use Rattle.c_syntax.specs.First.{IsFirst}
 use Rattle.c_syntax.specs.Operators.{prefix_token, measure_word}
 use Rattle.c_syntax.specs.ReadExpr.{begins_expr}
 use Rattle.c_syntax.specs.ReadToken.{begins_type}
-use Rattle.c_syntax.specs.Reader.{seen}
+use Rattle.c_syntax.specs.Parser.{next_body}
 use Rattle.c_syntax.specs.Scopes.{Scope}
 use Rattle.c_syntax.specs.Spelling.{spell}
 use Rattle.c_syntax.specs.Tokens.{spell_pieces}
-use Rattle.c_syntax.specs.Tree.{Expr, Const, Id, Text, Paren, Index, Call, Member, Postfix', Prefix', Measure', Cast, Infix', Cond}
+use Rattle.c_syntax.specs.Tree.{Expr, Const, Id, Text, Paren, Index, Call, Member, PostfixOp, PrefixOp, MeasureOp, Cast, InfixOp, Cond}
 use Rattle.c_syntax.specs.WellFormed.{IsExpr}
 use Rattle.c_syntax.proofs.Again.{front}
 use Rattle.c_syntax.proofs.FirstLaws.{first_expr}
 use Rattle.c_syntax.proofs.Takes.{Takes, takes_parted}
 
 -- what the spelling begins with, the tokens do
-pub first_seen : (begins : Bool) (scope : Scope) (tokens rest : List Token) (all : List Spelled) → IsFirst begins scope all → Takes tokens all rest → begins_type scope (seen tokens) ≡ begins
+pub first_seen : (begins : Bool) (scope : Scope) (tokens rest : List Token) (all : List Spelled) → IsFirst begins scope all → Takes tokens all rest → begins_type scope (next_body tokens) ≡ begins
 first_seen begins scope tokens rest [] is all = absurd is
 first_seen begins scope tokens rest (s ∷ more) is all = ap (begins_type scope) (front tokens rest (s ∷ more) all).0 ∙ is
 
@@ -32,7 +32,7 @@ pub first_shorter : (begins : Bool) (scope : Scope) (tokens rest : List Token) (
 first_shorter begins scope tokens rest [] is all = absurd is
 first_shorter begins scope tokens rest (s ∷ more) is all = (front tokens rest (s ∷ more) all).3
 
-pub begins_no_type : (e : Expr) (scope : Scope) (level : ℕ) (tokens rest : List Token) → IsExpr e scope level → Takes tokens (spell e) rest → begins_type scope (seen tokens) ≡ false
+pub begins_no_type : (e : Expr) (scope : Scope) (level : ℕ) (tokens rest : List Token) → IsExpr e scope level → Takes tokens (spell e) rest → begins_type scope (next_body tokens) ≡ false
 begins_no_type e scope level tokens rest is all = first_seen false scope tokens rest (spell e) (first_expr e scope level is) all
 
 begins_prefix : (scope : Scope) (operator : Prefix) → begins_expr scope (Some (prefix_token operator)) ≡ true
@@ -46,15 +46,15 @@ begins_prefix scope prefix.Flip = refl
 begins_prefix scope prefix.Not = refl
 begins_prefix scope prefix.SizeExpr = refl
 
-begins_measure : (scope : Scope) (operator : Measure) → begins_expr scope (Some (body.Word (measure_word operator))) ≡ true
+begins_measure : (scope : Scope) (operator : Measure) → begins_expr scope (Some (lexeme.Word (measure_word operator))) ≡ true
 begins_measure scope measure.SizeType = refl
 begins_measure scope measure.AlignType = refl
 
-begins_pieces : (scope : Scope) (place : Option Pos) (wide : Bool) (pieces : List _) (tokens rest : List Token) → (pieces ≡ [] → ⊥) → Takes tokens (spell_pieces place wide pieces) rest → begins_expr scope (seen tokens) ≡ true
+begins_pieces : (scope : Scope) (place : Option Pos) (wide : Bool) (pieces : List _) (tokens rest : List Token) → (pieces ≡ [] → ⊥) → Takes tokens (spell_pieces place wide pieces) rest → begins_expr scope (next_body tokens) ≡ true
 begins_pieces scope place wide [] tokens rest some all = absurd (some refl)
 begins_pieces scope place wide (units ∷ more) tokens rest some all = ap (begins_expr scope) (front tokens rest (spell_pieces place wide (units ∷ more)) all).0
 
-pub expr_begins : (e : Expr) (scope : Scope) (level : ℕ) (tokens rest : List Token) → IsExpr e scope level → Takes tokens (spell e) rest → begins_expr scope (seen tokens) ≡ true
+pub expr_begins : (e : Expr) (scope : Scope) (level : ℕ) (tokens rest : List Token) → IsExpr e scope level → Takes tokens (spell e) rest → begins_expr scope (next_body tokens) ≡ true
 expr_begins (Const pos (constant.Number number)) scope level tokens rest is all = ap (begins_expr scope) (front tokens rest (spell (Const pos (constant.Number number))) all).0
 expr_begins (Const pos (constant.Character value wide)) scope level tokens rest is all = ap (begins_expr scope) (front tokens rest (spell (Const pos (constant.Character value wide))) all).0
 expr_begins (Id pos x) scope level tokens rest is all = ap (begins_expr scope) (front tokens rest (spell (Id pos x)) all).0 ∙ ap not is
@@ -70,12 +70,12 @@ expr_begins (Call pos function arguments) scope level tokens rest is all =
     expr_begins function scope _ tokens front.mid is.1 front.one
 expr_begins (Member pos access whole x) scope level tokens rest is all =
     let front = takes_parted tokens rest (spell whole) _ all in expr_begins whole scope _ tokens front.mid is.1 front.one
-expr_begins (Postfix' pos operator operand) scope level tokens rest is all =
+expr_begins (PostfixOp pos operator operand) scope level tokens rest is all =
     let front = takes_parted tokens rest (spell operand) _ all in expr_begins operand scope _ tokens front.mid is.1 front.one
-expr_begins (Prefix' pos operator operand) scope level tokens rest is all = ap (begins_expr scope) (front tokens rest (spell (Prefix' pos operator operand)) all).0 ∙ begins_prefix scope operator
-expr_begins (Measure' pos operator type) scope level tokens rest is all = ap (begins_expr scope) (front tokens rest (spell (Measure' pos operator type)) all).0 ∙ begins_measure scope operator
+expr_begins (PrefixOp pos operator operand) scope level tokens rest is all = ap (begins_expr scope) (front tokens rest (spell (PrefixOp pos operator operand)) all).0 ∙ begins_prefix scope operator
+expr_begins (MeasureOp pos operator type) scope level tokens rest is all = ap (begins_expr scope) (front tokens rest (spell (MeasureOp pos operator type)) all).0 ∙ begins_measure scope operator
 expr_begins (Cast pos type operand) scope level tokens rest is all = ap (begins_expr scope) (front tokens rest (spell (Cast pos type operand)) all).0
-expr_begins (Infix' pos operator left right) scope level tokens rest is all =
+expr_begins (InfixOp pos operator left right) scope level tokens rest is all =
     let front = takes_parted tokens rest (spell left) _ all in expr_begins left scope _ tokens front.mid is.1 front.one
 expr_begins (Cond pos test then else) scope level tokens rest is all =
     let both = takes_parted tokens rest (spell test ++ _) _ all in

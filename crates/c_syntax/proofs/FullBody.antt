@@ -4,13 +4,13 @@ use Rattle.std.specs.List.{flat_map}
 use Rattle.std.specs.Option.{IsSome}
 use Rattle.c_lexer.specs.declared.punct.Punct.TheVariants as p
 use Rattle.c_lexer.specs.declared.token.Token.{Token}
-use Rattle.c_lexer.specs.declared.token.Body.TheVariants as body
+use Rattle.c_lexer.specs.declared.token.Body.TheVariants as lexeme
 use Rattle.c_lexer.specs.declared.word.Word.TheVariants as w
-use Rattle.c_syntax.specs.declared.form.Form.TheVariants as form
+use Rattle.c_syntax.specs.declared.declarator_form.DeclaratorForm.TheVariants as form
 use Rattle.c_syntax.specs.TreeUnit.{InitDeclarator, BlockItems, Function, External, Defines, Declaring, Asserting}
 use Rattle.c_syntax.specs.First.{IsFirst}
 use Rattle.c_syntax.specs.HeightUnit.{block_items_height, function_height, external_height, externals_height}
-use Rattle.c_syntax.specs.Reader.{Found, seen, tail}
+use Rattle.c_syntax.specs.Parser.{Found, next_body, tail}
 use Rattle.c_syntax.specs.ReadBody.{statements, block_lower, is_body, function_scope, external_declared, external_on, external_by, external_at, externals}
 use Rattle.c_syntax.specs.ReadToken.{is_mark, is_word, begins_type}
 use Rattle.c_syntax.specs.Scopes.{Scope, predeclared, specifiers_add}
@@ -28,7 +28,7 @@ use Rattle.c_syntax.proofs.FirstLaws.{first_specifiers, first_declaration}
 use Rattle.c_syntax.proofs.FirstTokens.{first_seen}
 use Rattle.c_syntax.proofs.FullBlock.{block_again}
 use Rattle.c_syntax.proofs.FullDeclaration.{ends_declarator, named_token, Follows, specified, assert_full}
-use Rattle.c_syntax.proofs.FullDeclarator.{readers_full}
+use Rattle.c_syntax.proofs.FullDeclarator.{parsers_full}
 use Rattle.c_syntax.proofs.FullStatement.{statements_full}
 use Rattle.c_syntax.proofs.Takes.{Takes, takes_parted, takes_append}
 
@@ -45,10 +45,10 @@ some_is None some = absurd (cc (some))
 some_is (Some a) some = refl
 
 -- a body follows where the declarator has parameters of its own
-body_is : (one : Declarator) (tokens : List Token) → IsSome (own_parameters one) → seen tokens ≡ Some (body.Mark p.OpenBrace) → is_body one (seen tokens) ≡ true
+body_is : (one : Declarator) (tokens : List Token) → IsSome (own_parameters one) → next_body tokens ≡ Some (lexeme.Mark p.OpenBrace) → is_body one (next_body tokens) ≡ true
 body_is one tokens some e = ap (is_body one) e ∙ some_is (own_parameters one) some
 
-no_body : (one : Declarator) (tokens : List Token) → is_mark p.OpenBrace (seen tokens) ≡ false → is_body one (seen tokens) ≡ false
+no_body : (one : Declarator) (tokens : List Token) → is_mark p.OpenBrace (next_body tokens) ≡ false → is_body one (next_body tokens) ≡ false
 no_body one tokens none = ap (λ b. b && is_some (own_parameters one)) none
 
 module _ (k : ℕ) where
@@ -59,13 +59,13 @@ module _ (k : ℕ) where
   function_again one scope tokens mid rest is high all behind =
       let f = front mid rest (mark p.OpenBrace ∷ spell_block_items one.body ++ mark p.CloseBrace ∷ []) behind in
       let here = scope ++ specifiers_add one.specifiers in
-      then_read _ _ one.declarator mid _ ((readers_full k).declarator form.Named here one.declarator tokens mid is.2 is.3 (omega arith) (ap ends_declarator f.0) all)
+      then_read _ _ one.declarator mid _ ((parsers_full k).declarator form.Named here one.declarator tokens mid is.2 is.3 (omega arith) (ap ends_declarator f.0) all)
       (ap (λ b. external_declared k scope one.specifiers one.declarator b mid) (body_is one.declarator mid is.4 f.0)
       ∙ then_read _ _ one.body rest _ (lower_again k one.body (function_scope k scope one.specifiers one.declarator) (tail mid) rest is.5 (omega arith) f.2) refl)
 
   -- behind those of a declaration
   declaring_again : (all : Specifiers) (list : List InitDeclarator) (scope : Scope) (tokens rest : List Token) → Follows k all list (scope ++ specifiers_add all) tokens rest
-      → external_by k scope all (is_mark p.Semicolon (seen tokens)) tokens ≡ Found (Declaring (record { specifiers = all; declarators = list })) rest
+      → external_by k scope all (is_mark p.Semicolon (next_body tokens)) tokens ≡ Found (Declaring (record { specifiers = all; declarators = list })) rest
   unfolding external_on
   declaring_again all [] scope tokens rest x =
       ap (λ o. external_by k scope all (is_mark p.Semicolon o) tokens) x.0 ∙ ap (λ ts. Found (Declaring (record { specifiers = all; declarators = [] })) ts) x.1
@@ -76,18 +76,18 @@ module _ (k : ℕ) where
       ∙ then_read _ _ (record { specifiers = all; declarators = first ∷ more }) rest _ x.declares refl)
 
 -- a token that begins a type begins no static assertion
-type_no_assert : (scope : Scope) (tokens rest : List Token) (all : List _) → IsFirst true scope all → Takes tokens all rest → is_word w.StaticAssert (seen tokens) ≡ false
-type_no_assert scope tokens rest all is takes = no_assert (begins_type scope) (seen tokens) refl (first_seen true scope tokens rest all is takes)
+type_no_assert : (scope : Scope) (tokens rest : List Token) (all : List _) → IsFirst true scope all → Takes tokens all rest → is_word w.StaticAssert (next_body tokens) ≡ false
+type_no_assert scope tokens rest all is takes = no_assert (begins_type scope) (next_body tokens) refl (first_seen true scope tokens rest all is takes)
 
 pub external_full : (k : ℕ) (scope : Scope) (one : External) (tokens rest : List Token) → IsExternal one scope → external_height one ≤ suc k → Takes tokens (spell_external one) rest
     → external_at k scope tokens ≡ Found one rest
 unfolding external_at
 external_full k scope (Asserting one) tokens rest fits low_height all =
     let f = front tokens rest (spell_assert one) all in
-    chosen_first (is_word w.StaticAssert (seen tokens)) _ _ tokens _ (ap (is_word w.StaticAssert) f.0) (then_read _ _ one rest _ (assert_full k scope one tokens rest fits low_height all) refl)
+    chosen_first (is_word w.StaticAssert (next_body tokens)) _ _ tokens _ (ap (is_word w.StaticAssert) f.0) (then_read _ _ one rest _ (assert_full k scope one tokens rest fits low_height all) refl)
 external_full k scope (Declaring one) tokens rest fits low_height all =
     let x = specified k one.specifiers one.declarators scope tokens rest fits low_height all in
-    chosen_second (is_word w.StaticAssert (seen tokens)) _ _ tokens _ (type_no_assert scope tokens rest (spell_declaration one) (first_declaration one scope fits) all)
+    chosen_second (is_word w.StaticAssert (next_body tokens)) _ _ tokens _ (type_no_assert scope tokens rest (spell_declaration one) (first_declaration one scope fits) all)
     (then_read _ _ one.specifiers x.mid _ x.reads (declaring_again k one.specifiers one.declarators scope x.mid rest x.behind))
 external_full k scope (Defines one) tokens rest fits low_height all =
     let body_of = mark p.OpenBrace ∷ spell_block_items one.body in
@@ -96,9 +96,9 @@ external_full k scope (Defines one) tokens rest fits low_height all =
     let x = takes_parted tokens y.mid (spell_specifiers one.specifiers) (spell_declarator one.declarator) y.one in
     let has = named_token one.declarator fits.3 in
     let begins = declarator_begins form.Named scope one.declarator x.mid y.mid has fits.3 x.two in
-    let no_semicolon = opening_no_mark p.Semicolon one.declarator (seen x.mid) refl refl refl (opening one.declarator x.mid y.mid has x.two) in
-    chosen_second (is_word w.StaticAssert (seen tokens)) _ _ tokens _ (type_no_assert scope tokens x.mid (spell_specifiers one.specifiers) (first_specifiers one.specifiers scope fits.0 fits.1) x.one)
-    (then_read _ _ one.specifiers x.mid _ ((readers_full k).specifiers scope one.specifiers tokens x.mid fits.0 fits.1 (omega arith) begins.1 x.one)
+    let no_semicolon = opening_no_mark p.Semicolon one.declarator (next_body x.mid) refl refl refl (opening one.declarator x.mid y.mid has x.two) in
+    chosen_second (is_word w.StaticAssert (next_body tokens)) _ _ tokens _ (type_no_assert scope tokens x.mid (spell_specifiers one.specifiers) (first_specifiers one.specifiers scope fits.0 fits.1) x.one)
+    (then_read _ _ one.specifiers x.mid _ ((parsers_full k).specifiers scope one.specifiers tokens x.mid fits.0 fits.1 (omega arith) begins.1 x.one)
     (ap (λ b. external_by k scope one.specifiers b x.mid) no_semicolon
     ∙ function_again k one scope x.mid y.mid rest fits low_height x.two (takes_append y.mid close.mid rest body_of (mark p.CloseBrace ∷ []) y.two close.two)))
 

@@ -4,17 +4,17 @@ use Rattle.critical_table.specs.declared.pos.Pos.{Pos}
 use Rattle.c_lexer.specs.declared.punct.Punct.TheVariants as p
 use Rattle.c_lexer.specs.declared.token.Token.{Token}
 use Rattle.c_lexer.specs.declared.token.Body.{Body}
-use Rattle.c_lexer.specs.declared.token.Body.TheVariants as body
+use Rattle.c_lexer.specs.declared.token.Body.TheVariants as lexeme
 use Rattle.c_lexer.specs.declared.word.Word.TheVariants as w
-use Rattle.c_syntax.specs.declared.form.Form.TheVariants as form
+use Rattle.c_syntax.specs.declared.declarator_form.DeclaratorForm.TheVariants as form
 use Rattle.c_syntax.specs.declared.operator.Infix.TheVariants as between
 use Rattle.c_syntax.specs.Levels.{assignment, conditional}
 use Rattle.c_syntax.specs.Height.{declarator_height}
 use Rattle.c_syntax.specs.HeightUnit.{init_height, init_declarators_height, declaration_height, assert_height}
-use Rattle.c_syntax.specs.Reader.{Got, Found, Stopped, Reader, and_then, give, seen, place, tail, ones, has_ending, more_listed, listed, ◌>>=◌}
+use Rattle.c_syntax.specs.Parser.{Outcome, Found, Stopped, Parser, and_then, pure, next_body, place, tail, ones, has_ending, more_listed, comma_list, ◌>>=◌}
 use Rattle.c_syntax.specs.ReadBody.{init_by, init_on, init_declarator, init_declarator_adds, more_declarators, declared_on, declaration_by, declaration_on, declaration_at, message_by, message, assert_on, assert_at, declaration_lower}
 use Rattle.c_syntax.specs.ReadExpr.{piece_by, piece, pieces}
-use Rattle.c_syntax.specs.ReadSpecifier.{readers}
+use Rattle.c_syntax.specs.ReadSpecifier.{parsers}
 use Rattle.c_syntax.specs.ReadToken.{is_mark, is_literal, qualifier_of}
 use Rattle.c_syntax.specs.ReadDeclarator.{begins_declarator}
 use Rattle.c_syntax.specs.Scopes.{Scope, names_types, own_name, declared_if, specifiers_add, declarator_adds}
@@ -26,11 +26,11 @@ use Rattle.c_syntax.specs.Tree.{Expr, Specifiers, Declarator, Omitted}
 use Rattle.c_syntax.specs.TreeUnit.{Initializer, InitDeclarator, Declaration, Assert}
 use Rattle.c_syntax.specs.WellFormed.{DeclaresName, HasToken, IsDeclarator}
 use Rattle.c_syntax.specs.WellFormedUnit.{IsInit, AreInitDeclarators, IsDeclaration, IsAssert}
-use Rattle.c_syntax.proofs.Again.{front, tail_shorter, then_read, look_at, deeper_again, exactly_again, Each, many_again, Behind, listed_again, behind_commas, behind_seen}
+use Rattle.c_syntax.proofs.Again.{front, tail_shorter, then_read, peek_at, deeper_again, expect_again, Each, many_again, Behind, listed_again, behind_commas, behind_seen}
 use Rattle.c_syntax.proofs.DeclaratorEnds.{declarator_begins, opening, opening_no_mark}
 use Rattle.c_syntax.proofs.Ends.{ends_closed, ends_infix}
 use Rattle.c_syntax.proofs.Full.{EndsExpr, EndsDeclarator, ends_specifiers}
-use Rattle.c_syntax.proofs.FullDeclarator.{readers_full}
+use Rattle.c_syntax.proofs.FullDeclarator.{parsers_full}
 use Rattle.c_syntax.proofs.FullInitializer.{initializers_full}
 use Rattle.c_syntax.proofs.HeightLaws.{expr_high}
 use Rattle.c_syntax.proofs.Takes.{Takes, takes_parted}
@@ -43,15 +43,15 @@ ends_declarator o = begins_declarator form.Parameter o || is_some (qualifier_of 
 
 -- a comma or the semicolon
 abbrev Separates : List Token → Type 0
-Separates tokens = (seen tokens ≡ Some (body.Mark p.Comma)) ⊎ (seen tokens ≡ Some (body.Mark p.Semicolon))
+Separates tokens = (next_body tokens ≡ Some (lexeme.Mark p.Comma)) ⊎ (next_body tokens ≡ Some (lexeme.Mark p.Semicolon))
 
-separates_behind : (parts : List _) (tokens rest : List Token) → seen rest ≡ Some (body.Mark p.Semicolon) → Takes tokens (behind_commas parts) rest → Separates tokens
+separates_behind : (parts : List _) (tokens rest : List Token) → next_body rest ≡ Some (lexeme.Mark p.Semicolon) → Takes tokens (behind_commas parts) rest → Separates tokens
 separates_behind parts tokens rest close all = elim (behind_seen parts tokens rest all) [
   | inl e ↦ inl e
-  | inr e ↦ inr (ap seen e ∙ close)
+  | inr e ↦ inr (ap next_body e ∙ close)
 ]
 
-separates_test : (A : Type 0) (test : Option Body → A) (a : A) (tokens : List Token) → test (Some (body.Mark p.Comma)) ≡ a → test (Some (body.Mark p.Semicolon)) ≡ a → Separates tokens → test (seen tokens) ≡ a
+separates_test : (A : Type 0) (test : Option Body → A) (a : A) (tokens : List Token) → test (Some (lexeme.Mark p.Comma)) ≡ a → test (Some (lexeme.Mark p.Semicolon)) ≡ a → Separates tokens → test (next_body tokens) ≡ a
 separates_test A test a tokens comma semicolon (inl e) = ap test e ∙ comma
 separates_test A test a tokens comma semicolon (inr e) = ap test e ∙ semicolon
 
@@ -61,11 +61,11 @@ separates_expr tokens (inr e) = ends_closed assignment tokens p.Semicolon e (λ 
 
 -- the declarator ends before its initializer
 ends_init : (init : Option Initializer) (tokens rest : List Token) → Separates rest → Takes tokens (spell_init init) rest → EndsDeclarator tokens
-ends_init None tokens rest close all = ap (λ ts. ends_declarator (seen ts)) all ∙ separates_test Bool ends_declarator false rest refl refl close
+ends_init None tokens rest close all = ap (λ ts. ends_declarator (next_body ts)) all ∙ separates_test Bool ends_declarator false rest refl refl close
 ends_init (Some one) tokens rest close all = ap ends_declarator (front tokens rest (mark p.Assign ∷ spell_initializer one) all).0
 
-no_body : (init : Option Initializer) (tokens rest : List Token) → Separates rest → Takes tokens (spell_init init) rest → is_mark p.OpenBrace (seen tokens) ≡ false
-no_body None tokens rest close all = ap (λ ts. is_mark p.OpenBrace (seen ts)) all ∙ separates_test Bool (is_mark p.OpenBrace) false rest refl refl close
+no_body : (init : Option Initializer) (tokens rest : List Token) → Separates rest → Takes tokens (spell_init init) rest → is_mark p.OpenBrace (next_body tokens) ≡ false
+no_body None tokens rest close all = ap (λ ts. is_mark p.OpenBrace (next_body ts)) all ∙ separates_test Bool (is_mark p.OpenBrace) false rest refl refl close
 no_body (Some one) tokens rest close all = ap (is_mark p.OpenBrace) (front tokens rest (mark p.Assign ∷ spell_initializer one) all).0
 
 pub named_token : (one : Declarator) → DeclaresName one → HasToken one
@@ -77,7 +77,7 @@ adds_again : (scope a b c : Scope) → scope ++ a ++ b ++ c ≡ scope ++ (a ++ b
 adds_again scope a b c = append_assoc (scope ++ a) b c ∙ append_assoc scope a (b ++ c) ∙ ap (λ more. scope ++ more) (sym (append_assoc a b c))
 
 -- what stands behind the first of a list is read alone
-more_of : {A : Type 0} (g : Got (List (Option A))) (first : A) (more : List A) (has : Bool) (rest : List Token) → and_then {B = List A × Bool} g (λ others. give (first ∷ ones others, has_ending others)) ≡ Found (first ∷ more, has) rest
+more_of : {A : Type 0} (g : Outcome (List (Option A))) (first : A) (more : List A) (has : Bool) (rest : List Token) → and_then {B = List A × Bool} g (λ others. pure (first ∷ ones others, has_ending others)) ≡ Found (first ∷ more, has) rest
     → (others : List (Option A)) × (g ≡ Found others rest) × (ones others ≡ more)
 more_of {A} (Found others mid) first more has rest e =
     let read : List A × Bool = (first ∷ ones others, has_ending others) in
@@ -87,12 +87,12 @@ more_of {A} (Found others mid) first more has rest e =
     (others, ap (λ ts. Found others ts) (cc (e)), cc (list))
 more_of (Stopped why mid) first more has rest e = absurd (cc (e))
 
-module _ {S A : Type 0} (is_comma : Option Body → Bool) (ends : Option Body → Bool) (ending : Reader (Unit {0})) (one : S → Reader A) (next : S → A → S) where
+module _ {S A : Type 0} (is_comma : Option Body → Bool) (ends : Option Body → Bool) (ending : Parser (Unit {0})) (one : S → Parser A) (next : S → A → S) where
   more_again : (first : A) (more : List A) (has : Bool) (s : S) (tokens mid rest : List Token) → one s tokens ≡ Found first mid → Behind is_comma ends ending one next more has (next s first) mid rest
       → (others : List (Option A)) × (more_listed is_comma ends ending one next (next s first) mid ≡ Found others rest) × (ones others ≡ more)
-  unfolding listed
+  unfolding comma_list
   more_again first more has s tokens mid rest e behind =
-      let behind_first : A → Reader (List A × Bool) = λ first. more_listed is_comma ends ending one next (next s first) >>= λ others. give (first ∷ ones others, has_ending others) in
+      let behind_first : A → Parser (List A × Bool) = λ first. more_listed is_comma ends ending one next (next s first) >>= λ others. pure (first ∷ ones others, has_ending others) in
       let list = listed_again is_comma ends ending one next first more has s tokens mid rest e behind in
       more_of (more_listed is_comma ends ending one next (next s first) mid) first more has rest (ap (λ g. and_then g behind_first) (sym e) ∙ list)
 
@@ -101,7 +101,7 @@ module _ (k : ℕ) (names_type : Bool) where
       → init_on k names_type scope one tokens ≡ Found (record { declarator = one; initializer = init }) rest
   unfolding init_on
   init_again scope one None tokens rest is high close all =
-      let none = ap (λ ts. is_mark p.Assign (seen ts)) all ∙ separates_test Bool (is_mark p.Assign) false rest refl refl close in
+      let none = ap (λ ts. is_mark p.Assign (next_body ts)) all ∙ separates_test Bool (is_mark p.Assign) false rest refl refl close in
       ap (λ b. init_by k (scope ++ declarator_adds one ++ declared_if names_type (own_name one)) one b tokens) none ∙ ap (λ ts. Found (record { declarator = one; initializer = None }) ts) all
   init_again scope one (Some value) tokens rest is high close all =
       let behind = scope ++ declarator_adds one ++ declared_if names_type (own_name one) in
@@ -112,11 +112,11 @@ module _ (k : ℕ) (names_type : Bool) where
   -- a declarator is read, and then its initializer
   record One (scope : Scope) (one : InitDeclarator) (tokens rest : List Token) : Type 0 where
     mid : List Token
-    reads : (readers k).declarator form.Named scope tokens ≡ Found one.declarator mid
+    reads : (parsers k).declarator form.Named scope tokens ≡ Found one.declarator mid
     inits : init_on k names_type scope one.declarator mid ≡ Found one rest
-    no_brace : is_mark p.OpenBrace (seen mid) ≡ false
-    specifies : ends_specifiers (seen tokens) ≡ true
-    no_semicolon : is_mark p.Semicolon (seen tokens) ≡ false
+    no_brace : is_mark p.OpenBrace (next_body mid) ≡ false
+    specifies : ends_specifiers (next_body tokens) ≡ true
+    no_semicolon : is_mark p.Semicolon (next_body tokens) ≡ false
 
   one_again : (scope : Scope) (one : InitDeclarator) (tokens rest : List Token) → IsDeclarator one.declarator scope → DeclaresName one.declarator → IsInit one.initializer (scope ++ declarator_adds one.declarator ++ declared_if names_type (own_name one.declarator))
       → max (declarator_height one.declarator) (init_height one.initializer) ≤ k → Separates rest → Takes tokens (spell_init_declarator one) rest → One scope one tokens rest
@@ -125,11 +125,11 @@ module _ (k : ℕ) (names_type : Bool) where
       let has = named_token one.declarator declares in
       record {
         mid = x.mid;
-        reads = (readers_full k).declarator form.Named scope one.declarator tokens x.mid is declares (omega arith) (ends_init one.initializer x.mid rest close x.two) x.one;
+        reads = (parsers_full k).declarator form.Named scope one.declarator tokens x.mid is declares (omega arith) (ends_init one.initializer x.mid rest close x.two) x.one;
         inits = init_again scope one.declarator one.initializer x.mid rest fits (omega arith) close x.two;
         no_brace = no_body one.initializer x.mid rest close x.two;
         specifies = (declarator_begins form.Named scope one.declarator tokens x.mid has declares x.one).1;
-        no_semicolon = opening_no_mark p.Semicolon one.declarator (seen tokens) refl refl refl (opening one.declarator tokens x.mid has x.one);
+        no_semicolon = opening_no_mark p.Semicolon one.declarator (next_body tokens) refl refl refl (opening one.declarator tokens x.mid has x.one);
       }
 
   read_one : (scope : Scope) (one : InitDeclarator) (tokens rest : List Token) → One scope one tokens rest → init_declarator k names_type scope tokens ≡ Found one rest
@@ -141,8 +141,8 @@ module _ (k : ℕ) (names_type : Bool) where
       → AreInitDeclarators names_type more (scope ++ init_declarator_adds k names_type one)
   next_scope scope one more are = subst (AreInitDeclarators names_type more) (adds_again scope (declarator_adds one.declarator) (declared_if names_type (own_name one.declarator)) (init_adds one.initializer)) are
 
-  behind_again : (all : List InitDeclarator) (scope : Scope) (tokens rest : List Token) → AreInitDeclarators names_type all scope → init_declarators_height all ≤ k → seen rest ≡ Some (body.Mark p.Semicolon) → Takes tokens (behind_commas (map spell_init_declarator all)) rest
-      → Behind (is_mark p.Comma) (λ o. false) (give tt) (init_declarator k names_type) (λ s one. s ++ init_declarator_adds k names_type one) all false scope tokens rest
+  behind_again : (all : List InitDeclarator) (scope : Scope) (tokens rest : List Token) → AreInitDeclarators names_type all scope → init_declarators_height all ≤ k → next_body rest ≡ Some (lexeme.Mark p.Semicolon) → Takes tokens (behind_commas (map spell_init_declarator all)) rest
+      → Behind (is_mark p.Comma) (λ o. false) (pure tt) (init_declarator k names_type) (λ s one. s ++ init_declarator_adds k names_type one) all false scope tokens rest
   behind_again [] scope tokens rest are high close all = (all, ap (is_mark p.Comma) close)
   behind_again (first ∷ more) scope tokens rest are high close all =
       let both = takes_parted tokens rest (mark p.Comma ∷ spell_init_declarator first) (behind_commas (map spell_init_declarator more)) all in
@@ -162,13 +162,13 @@ module _ (k : ℕ) (all : Specifiers) where
   -- behind the specifiers the first declarator is read, and then what is behind it
   pub record First (scope : Scope) (first : InitDeclarator) (more : List InitDeclarator) (tokens rest : List Token) : Type 0 where
     pub mid : List Token
-    pub reads : (readers k).declarator form.Named scope tokens ≡ Found first.declarator mid
+    pub reads : (parsers k).declarator form.Named scope tokens ≡ Found first.declarator mid
     pub declares : declared_on k scope all first.declarator mid ≡ Found (record { specifiers = all; declarators = first ∷ more }) rest
-    pub no_brace : is_mark p.OpenBrace (seen mid) ≡ false
-    pub specifies : ends_specifiers (seen tokens) ≡ true
-    pub no_semicolon : is_mark p.Semicolon (seen tokens) ≡ false
+    pub no_brace : is_mark p.OpenBrace (next_body mid) ≡ false
+    pub specifies : ends_specifiers (next_body tokens) ≡ true
+    pub no_semicolon : is_mark p.Semicolon (next_body tokens) ≡ false
 
-  first_again : (scope : Scope) (first : InitDeclarator) (more : List InitDeclarator) (tokens end : List Token) → AreInitDeclarators (names_types all) (first ∷ more) scope → init_declarators_height (first ∷ more) ≤ k → seen end ≡ Some (body.Mark p.Semicolon)
+  first_again : (scope : Scope) (first : InitDeclarator) (more : List InitDeclarator) (tokens end : List Token) → AreInitDeclarators (names_types all) (first ∷ more) scope → init_declarators_height (first ∷ more) ≤ k → next_body end ≡ Some (lexeme.Mark p.Semicolon)
       → Takes tokens (commas (map spell_init_declarator (first ∷ more))) end → First scope first more tokens (tail end)
   unfolding declared_on more_declarators
   first_again scope first more tokens end are high close takes =
@@ -177,13 +177,13 @@ module _ (k : ℕ) (all : Specifiers) where
       let both = takes_parted tokens end (spell_init_declarator first) (behind_commas (map spell_init_declarator more)) takes in
       let x = one_again k names_type scope first tokens both.mid are.0 are.1 are.2 (omega arith) (separates_behind (map spell_init_declarator more) both.mid end close both.two) both.one in
       let reads = read_one k names_type scope first tokens both.mid x in
-      let others = more_again (is_mark p.Comma) (λ o. false) (give tt) (init_declarator k names_type) (λ s one. s ++ init_declarator_adds k names_type one) first more false scope tokens both.mid end reads
+      let others = more_again (is_mark p.Comma) (λ o. false) (pure tt) (init_declarator k names_type) (λ s one. s ++ init_declarator_adds k names_type one) first more false scope tokens both.mid end reads
       (behind_again k names_type more behind both.mid end (next_scope k names_type scope first more are.3) (omega arith) close both.two) in
       record {
         mid = x.mid;
         reads = x.reads;
         declares = then_read _ _ first both.mid _ x.inits (then_read _ _ others.0 end _ others.1
-            (exactly_again (is_mark p.Semicolon) _ end _ _ refl close (ap (λ more. Found (record { specifiers = all; declarators = first ∷ more }) (tail end)) others.2)));
+            (expect_again (is_mark p.Semicolon) _ end _ _ refl close (ap (λ more. Found (record { specifiers = all; declarators = first ∷ more }) (tail end)) others.2)));
         no_brace = x.no_brace;
         specifies = x.specifies;
         no_semicolon = x.no_semicolon;
@@ -191,18 +191,18 @@ module _ (k : ℕ) (all : Specifiers) where
 
   -- what follows the specifiers
   abbrev pub Follows : List InitDeclarator → Scope → List Token → List Token → Type 0
-  Follows [] scope tokens rest = (seen tokens ≡ Some (body.Mark p.Semicolon)) × (tail tokens ≡ rest)
+  Follows [] scope tokens rest = (next_body tokens ≡ Some (lexeme.Mark p.Semicolon)) × (tail tokens ≡ rest)
   Follows (first ∷ more) scope tokens rest = First scope first more tokens rest
 
-  follows : (list : List InitDeclarator) (scope : Scope) (tokens end : List Token) → AreInitDeclarators (names_types all) list scope → init_declarators_height list ≤ k → seen end ≡ Some (body.Mark p.Semicolon)
-      → Takes tokens (commas (map spell_init_declarator list)) end → (ends_specifiers (seen tokens) ≡ true) × Follows list scope tokens (tail end)
-  follows [] scope tokens end are high close takes = (ap (λ ts. ends_specifiers (seen ts)) takes ∙ ap ends_specifiers close, (ap seen takes ∙ close, ap tail takes))
+  follows : (list : List InitDeclarator) (scope : Scope) (tokens end : List Token) → AreInitDeclarators (names_types all) list scope → init_declarators_height list ≤ k → next_body end ≡ Some (lexeme.Mark p.Semicolon)
+      → Takes tokens (commas (map spell_init_declarator list)) end → (ends_specifiers (next_body tokens) ≡ true) × Follows list scope tokens (tail end)
+  follows [] scope tokens end are high close takes = (ap (λ ts. ends_specifiers (next_body ts)) takes ∙ ap ends_specifiers close, (ap next_body takes ∙ close, ap tail takes))
   follows (first ∷ more) scope tokens end are high close takes = let x = first_again scope first more tokens end are high close takes in (x.specifies, x)
 
   -- the specifiers are read, and then what follows
   pub record Specified (list : List InitDeclarator) (scope : Scope) (tokens rest : List Token) : Type 0 where
     pub mid : List Token
-    pub reads : (readers k).specifiers scope tokens ≡ Found all mid
+    pub reads : (parsers k).specifiers scope tokens ≡ Found all mid
     pub behind : Follows list (scope ++ specifiers_add all) mid rest
 
   pub specified : (list : List InitDeclarator) (scope : Scope) (tokens rest : List Token) → IsDeclaration (record { specifiers = all; declarators = list }) scope → declaration_height (record { specifiers = all; declarators = list }) ≤ suc k
@@ -214,7 +214,7 @@ module _ (k : ℕ) (all : Specifiers) where
       let f = follows list (scope ++ specifiers_add all) both.mid close.mid is.2 (omega arith) g.0 both.two in
       record {
         mid = both.mid;
-        reads = (readers_full k).specifiers scope all tokens both.mid is.0 is.1 (omega arith) f.0 both.one;
+        reads = (parsers_full k).specifiers scope all tokens both.mid is.0 is.1 (omega arith) f.0 both.one;
         behind = subst (λ ts. Follows list (scope ++ specifiers_add all) both.mid ts) g.2 f.1;
       }
 
@@ -240,15 +240,15 @@ lower_full (suc k) scope one tokens rest fits low_height all = declaration_full 
 
 -- ---- static assertions
 
-each_piece : (wide : Bool) (all : List (List ℤ)) (tokens rest : List Token) → is_literal wide (seen rest) ≡ false → Takes tokens (map (λ more. bare (body.Literal more wide)) all) rest
+each_piece : (wide : Bool) (all : List (List ℤ)) (tokens rest : List Token) → is_literal wide (next_body rest) ≡ false → Takes tokens (map (λ more. bare (lexeme.Literal more wide)) all) rest
     → Each (λ s o. is_literal wide o) (λ (s : Bool). piece) (λ s units. s) all wide tokens rest
 unfolding piece
 each_piece wide [] tokens rest ends all = (all, ends)
 each_piece wide (units ∷ more) tokens rest ends all =
-    let f = front tokens rest (map (λ more. bare (body.Literal more wide)) (units ∷ more)) all in
-    (tail tokens, ap (is_literal wide) f.0 ∙ own wide, look_at piece_by tokens _ _ f.0 refl, tail_shorter tokens _ f.0, each_piece wide more (tail tokens) rest ends f.2)
+    let f = front tokens rest (map (λ more. bare (lexeme.Literal more wide)) (units ∷ more)) all in
+    (tail tokens, ap (is_literal wide) f.0 ∙ own wide, peek_at piece_by tokens _ _ f.0 refl, tail_shorter tokens _ f.0, each_piece wide more (tail tokens) rest ends f.2)
   where
-    own : (wide : Bool) → is_literal wide (Some (body.Literal units wide)) ≡ true
+    own : (wide : Bool) → is_literal wide (Some (lexeme.Literal units wide)) ≡ true
     own true = refl
     own false = refl
 
@@ -260,13 +260,13 @@ message_again k pos test wide (units ∷ more) tokens mid rest some all close =
     let f = front tokens mid (spell_pieces None wide (units ∷ more)) all in
     let g = front mid rest (mark p.CloseParen ∷ mark p.Semicolon ∷ []) close in
     let h = front (tail mid) rest (mark p.Semicolon ∷ []) g.2 in
-    look_at (message_by k pos test) tokens _ _ f.0
+    peek_at (message_by k pos test) tokens _ _ f.0
     (then_read _ _ more mid _ (many_again _ _ _ more wide (tail tokens) mid (each_piece wide more (tail tokens) mid (ends wide g.0) f.2))
-    (exactly_again (is_mark p.CloseParen) _ mid _ _ refl g.0
-    (exactly_again (is_mark p.Semicolon) _ (tail mid) _ _ refl h.0
+    (expect_again (is_mark p.CloseParen) _ mid _ _ refl g.0
+    (expect_again (is_mark p.Semicolon) _ (tail mid) _ _ refl h.0
     (ap (λ ts. Found (record { pos = pos; condition = test; message = record { pieces = units ∷ more; wide = wide } }) ts) h.2))))
   where
-    ends : (wide : Bool) → seen mid ≡ Some (body.Mark p.CloseParen) → is_literal wide (seen mid) ≡ false
+    ends : (wide : Bool) → next_body mid ≡ Some (lexeme.Mark p.CloseParen) → is_literal wide (next_body mid) ≡ false
     ends true e = ap (is_literal true) e
     ends false e = ap (is_literal false) e
 
@@ -283,10 +283,10 @@ assert_full k scope one tokens rest fits low_height all =
     let g = front (tail tokens) both.mid (mark p.OpenParen ∷ spell one.condition) f.2 in
     let h = front both.mid close.mid behind both.two in
     let some : 0 < k = let h = expr_high one.condition in omega arith in
-    let reads = (readers_full k).expr scope conditional one.condition (tail (tail tokens)) both.mid (omega arith) fits.0 (omega arith) (ends_infix conditional both.mid between.Comma h.0 (omega arith)) g.2 in
+    let reads = (parsers_full k).expr scope conditional one.condition (tail (tail tokens)) both.mid (omega arith) fits.0 (omega arith) (ends_infix conditional both.mid between.Comma h.0 (omega arith)) g.2 in
     deeper_again k _ tokens _ some
-    (exactly_again (is_mark p.OpenParen) _ (tail tokens) _ _ refl g.0
+    (expect_again (is_mark p.OpenParen) _ (tail tokens) _ _ refl g.0
     (then_read _ _ one.condition both.mid _ reads
-    (exactly_again (is_mark p.Comma) _ both.mid _ _ refl h.0
+    (expect_again (is_mark p.Comma) _ both.mid _ _ refl h.0
     (message_again k (place tokens) one.condition one.message.wide one.message.pieces (tail both.mid) close.mid rest fits.1 h.2 close.two
     ∙ ap (λ pos. Found (record { pos = pos; condition = one.condition; message = one.message }) rest) f.1))))

@@ -5,20 +5,20 @@ use borrow.Author.Tests.{le-leb}
 use Rattle.critical_table.specs.declared.pos.Pos.{Pos}
 use Rattle.c_lexer.specs.declared.punct.Punct.TheVariants as p
 use Rattle.c_lexer.specs.declared.token.Token.{Token}
-use Rattle.c_lexer.specs.declared.token.Body.TheVariants as body
+use Rattle.c_lexer.specs.declared.token.Body.TheVariants as lexeme
 use Rattle.c_syntax.specs.declared.operator.Infix.{Infix}
 use Rattle.c_syntax.specs.Height.{height}
 use Rattle.c_syntax.specs.Levels.{expression, conditional, logical_or, unary, infix_level, left_level, right_level}
 use Rattle.c_syntax.specs.Operators.{infix_token}
-use Rattle.c_syntax.specs.Reader.{Found, Reader, seen, tail, climb}
-use Rattle.c_syntax.specs.ReadExpr.{Readers, own_level, goes_between, goes_infix, between_on, cond_on, infix_by, infix_on, infixes, unary_at, expr_at}
+use Rattle.c_syntax.specs.Parser.{Found, Parser, next_body, tail, climb}
+use Rattle.c_syntax.specs.ReadExpr.{Parsers, own_level, goes_between, goes_infix, between_on, cond_on, infix_by, infix_on, infixes, unary_at, expr_at}
 use Rattle.c_syntax.specs.ReadToken.{is_mark, infix_of}
 use Rattle.c_syntax.specs.Scopes.{Scope, expr_adds}
 use Rattle.c_syntax.specs.Spelling.{spell}
 use Rattle.c_syntax.specs.Tokens.{mark, mark_at}
-use Rattle.c_syntax.specs.Tree.{Expr, Const, Id, Text, Paren, Index, Call, Member, Postfix', Prefix', Measure', Cast, Infix', Cond}
+use Rattle.c_syntax.specs.Tree.{Expr, Const, Id, Text, Paren, Index, Call, Member, PostfixOp, PrefixOp, MeasureOp, Cast, InfixOp, Cond}
 use Rattle.c_syntax.specs.WellFormed.{IsExpr}
-use Rattle.c_syntax.proofs.Again.{front, then_read, read_at, exactly_again, climb_over, climb_step}
+use Rattle.c_syntax.proofs.Again.{front, then_read, read_at, expect_again, climb_over, climb_step}
 use Rattle.c_syntax.proofs.Ends.{infix_again, ends_closed, ends_infix, ends_question, ends_up}
 use Rattle.c_syntax.proofs.Full.{EndsExpr, AllFull}
 use Rattle.c_syntax.proofs.FullUnary.{IsOperand, unary_full}
@@ -32,7 +32,7 @@ both_true false c one two = absurd (cc)
 -- ---- the right side of an expression
 
 abbrev right_side : Expr → ℕ
-right_side (Infix' pos operator left right) = right_level operator
+right_side (InfixOp pos operator left right) = right_level operator
 right_side (Cond pos test then else) = conditional
 right_side _ = unary
 
@@ -45,11 +45,11 @@ below_side (Paren inner) scope next is = let h = infix_low next in omega arith
 below_side (Index pos array index) scope next is = let h = infix_low next in omega arith
 below_side (Call pos function arguments) scope next is = let h = infix_low next in omega arith
 below_side (Member pos access whole x) scope next is = let h = infix_low next in omega arith
-below_side (Postfix' pos operator operand) scope next is = let h = infix_low next in omega arith
-below_side (Prefix' pos operator operand) scope next is = let h = infix_low next in omega arith
-below_side (Measure' pos operator type) scope next is = let h = infix_low next in omega arith
+below_side (PostfixOp pos operator operand) scope next is = let h = infix_low next in omega arith
+below_side (PrefixOp pos operator operand) scope next is = let h = infix_low next in omega arith
+below_side (MeasureOp pos operator type) scope next is = let h = infix_low next in omega arith
 below_side (Cast pos type operand) scope next is = let h = infix_low next in omega arith
-below_side (Infix' pos inner left right) scope next is = follows inner next is.0
+below_side (InfixOp pos inner left right) scope next is = follows inner next is.0
 below_side (Cond pos test then else) scope next is = let h = lowest_left next is.0 in omega arith
 
 below_question : (e : Expr) (scope : Scope) → IsExpr e scope logical_or → conditional < right_side e
@@ -60,11 +60,11 @@ below_question (Paren inner) scope is = omega arith
 below_question (Index pos array index) scope is = omega arith
 below_question (Call pos function arguments) scope is = omega arith
 below_question (Member pos access whole x) scope is = omega arith
-below_question (Postfix' pos operator operand) scope is = omega arith
-below_question (Prefix' pos operator operand) scope is = omega arith
-below_question (Measure' pos operator type) scope is = omega arith
+below_question (PostfixOp pos operator operand) scope is = omega arith
+below_question (PrefixOp pos operator operand) scope is = omega arith
+below_question (MeasureOp pos operator type) scope is = omega arith
 below_question (Cast pos type operand) scope is = omega arith
-below_question (Infix' pos operator left right) scope is = let h = infix_below_right operator in omega (arith, is.0)
+below_question (InfixOp pos operator left right) scope is = let h = infix_below_right operator in omega (arith, is.0)
 below_question (Cond pos test then else) scope is = absurd (omega (arith, is.0))
 
 above_side : (e : Expr) (scope : Scope) (level : ℕ) → level ≤ unary → IsExpr e scope level → level ≤ right_side e
@@ -75,16 +75,16 @@ above_side (Paren inner) scope level low is = low
 above_side (Index pos array index) scope level low is = low
 above_side (Call pos function arguments) scope level low is = low
 above_side (Member pos access whole x) scope level low is = low
-above_side (Postfix' pos operator operand) scope level low is = low
-above_side (Prefix' pos operator operand) scope level low is = low
-above_side (Measure' pos operator type) scope level low is = low
+above_side (PostfixOp pos operator operand) scope level low is = low
+above_side (PrefixOp pos operator operand) scope level low is = low
+above_side (MeasureOp pos operator type) scope level low is = low
 above_side (Cast pos type operand) scope level low is = low
-above_side (Infix' pos operator left right) scope level low is = let h = infix_below_right operator in omega (arith, is.0)
+above_side (InfixOp pos operator left right) scope level low is = let h = infix_below_right operator in omega (arith, is.0)
 above_side (Cond pos test then else) scope level low is = is.0
 
 -- how many operators stand on the left side
 abbrev turns : Expr → ℕ
-turns (Infix' pos operator left right) = suc (turns left)
+turns (InfixOp pos operator left right) = suc (turns left)
 turns (Cond pos test then else) = suc (turns test)
 turns _ = 0
 
@@ -96,15 +96,15 @@ turns_low (Paren inner) = omega arith
 turns_low (Index pos array index) = omega arith
 turns_low (Call pos function arguments) = omega arith
 turns_low (Member pos access whole x) = omega arith
-turns_low (Postfix' pos operator operand) = omega arith
-turns_low (Prefix' pos operator operand) = omega arith
-turns_low (Measure' pos operator type) = omega arith
+turns_low (PostfixOp pos operator operand) = omega arith
+turns_low (PrefixOp pos operator operand) = omega arith
+turns_low (MeasureOp pos operator type) = omega arith
 turns_low (Cast pos type operand) = omega arith
-turns_low (Infix' pos operator left right) = omega (arith, turns_low left)
+turns_low (InfixOp pos operator left right) = omega (arith, turns_low left)
 turns_low (Cond pos test then else) = omega (arith, turns_low test)
 
-module _ (k : ℕ) (low : Readers) (full : AllFull k low) where
-  climbing : Scope → ℕ → ℕ → Expr → Reader Expr
+module _ (k : ℕ) (low : Parsers) (full : AllFull k low) where
+  climbing : Scope → ℕ → ℕ → Expr → Parser Expr
   climbing scope level = climb (goes_infix level) (λ e. nat_le (height e) k) (infix_on k low scope)
 
   -- the climb from the leftmost operand comes by the expression
@@ -122,7 +122,7 @@ module _ (k : ℕ) (low : Readers) (full : AllFull k low) where
     climbs = λ n. let same : n + turns e ≡ n = omega arith in ap (λ n. climbing scope level n e rest) same;
   }
 
-  extend : (scope : Scope) (level : ℕ) (e left : Expr) (tokens mid rest : List Token) → turns e ≡ suc (turns left) → height left ≤ k → goes_infix level left (seen mid) ≡ true → infix_on k low scope left mid ≡ Found e rest → Comes scope level left tokens mid
+  extend : (scope : Scope) (level : ℕ) (e left : Expr) (tokens mid rest : List Token) → turns e ≡ suc (turns left) → height left ≤ k → goes_infix level left (next_body mid) ≡ true → infix_on k low scope left mid ≡ Found e rest → Comes scope level left tokens mid
       → Comes scope level e tokens rest
   unfolding climbing
   extend scope level e left tokens mid rest one high goes reads x = record {
@@ -135,15 +135,15 @@ module _ (k : ℕ) (low : Readers) (full : AllFull k low) where
         ∙ climb_step (goes_infix level) (λ e. nat_le (height e) k) (infix_on k low scope) n left e mid rest goes (le-leb (height left) k high) reads;
   }
 
-  infix_goes : (scope : Scope) (level : ℕ) (operator : Infix) (left : Expr) (tokens : List Token) → seen tokens ≡ Some (body.Mark (infix_token operator)) → level ≤ infix_level operator → IsExpr left scope (left_level operator)
-      → goes_infix level left (seen tokens) ≡ true
+  infix_goes : (scope : Scope) (level : ℕ) (operator : Infix) (left : Expr) (tokens : List Token) → next_body tokens ≡ Some (lexeme.Mark (infix_token operator)) → level ≤ infix_level operator → IsExpr left scope (left_level operator)
+      → goes_infix level left (next_body tokens) ≡ true
   infix_goes scope level operator left tokens e below is =
       ap (goes_infix level left) e
-      ∙ ap (λ m. goes_between level left m (is_mark p.Question (Some (body.Mark (infix_token operator))))) (infix_again operator)
+      ∙ ap (λ m. goes_between level left m (is_mark p.Question (Some (lexeme.Mark (infix_token operator))))) (infix_again operator)
       ∙ both_true _ _ (le-leb level (infix_level operator) below) (le-leb (left_level operator) (own_level left) (own_above left scope (left_level operator) (left_low operator) is))
 
   infix_step : (scope : Scope) (pos : Pos) (operator : Infix) (left right : Expr) (tokens rest : List Token) → IsExpr right (scope ++ expr_adds left) (right_level operator) → height right ≤ k → EndsExpr (right_level operator) rest
-      → Takes tokens (mark_at pos (infix_token operator) ∷ spell right) rest → infix_on k low scope left tokens ≡ Found (Infix' pos operator left right) rest
+      → Takes tokens (mark_at pos (infix_token operator) ∷ spell right) rest → infix_on k low scope left tokens ≡ Found (InfixOp pos operator left right) rest
   unfolding infix_on between_on
   infix_step scope pos operator left right tokens rest is high ends all =
       let f = front tokens rest (mark_at pos (infix_token operator) ∷ spell right) all in
@@ -151,7 +151,7 @@ module _ (k : ℕ) (low : Readers) (full : AllFull k low) where
       (ap (λ m. infix_by k low scope left pos m tokens) (infix_again operator)
       ∙ then_read _ _ right rest _ (full.expr (scope ++ expr_adds left) (right_level operator) right (tail tokens) rest (right_low operator) is high ends f.2) refl)
 
-  cond_goes : (scope : Scope) (level : ℕ) (test : Expr) (tokens : List Token) → seen tokens ≡ Some (body.Mark p.Question) → level ≤ conditional → IsExpr test scope logical_or → goes_infix level test (seen tokens) ≡ true
+  cond_goes : (scope : Scope) (level : ℕ) (test : Expr) (tokens : List Token) → next_body tokens ≡ Some (lexeme.Mark p.Question) → level ≤ conditional → IsExpr test scope logical_or → goes_infix level test (next_body tokens) ≡ true
   cond_goes scope level test tokens e below is =
       ap (goes_infix level test) e ∙ both_true _ _ (le-leb level conditional below) (le-leb logical_or (own_level test) (own_above test scope logical_or (omega arith) is))
 
@@ -164,41 +164,41 @@ module _ (k : ℕ) (low : Readers) (full : AllFull k low) where
       let closed = ends_closed expression mid p.Colon g.0 (λ k low left. refl) refl refl in
       read_at (λ pos o. infix_by k low scope test pos (infix_of o)) tokens pos _ _ f.1 f.0
       (then_read _ _ then mid _ (full.expr (scope ++ expr_adds test) expression then (tail tokens) mid (omega arith) is high closed f.2)
-      (exactly_again (is_mark p.Colon) _ mid _ _ refl g.0
+      (expect_again (is_mark p.Colon) _ mid _ _ refl g.0
       (then_read _ _ else rest _ (full.expr (scope ++ expr_adds test ++ expr_adds then) conditional else (tail mid) rest (omega arith) also low_else ends g.2) refl)))
 
-  comes : (e : Expr) (scope : Scope) (level : ℕ) (tokens rest : List Token) → level ≤ unary → IsExpr e scope level → height e ≤ suc k → EndsExpr (right_side e) rest → Takes tokens (spell e) rest → Comes scope level e tokens rest
-  comes (Const pos constant) scope level tokens rest below is high ends all = alone scope level (Const pos constant) tokens rest refl tt below is high ends all
-  comes (Id pos x) scope level tokens rest below is high ends all = alone scope level (Id pos x) tokens rest refl tt below is high ends all
-  comes (Text pos text) scope level tokens rest below is high ends all = alone scope level (Text pos text) tokens rest refl tt below is high ends all
-  comes (Paren inner) scope level tokens rest below is high ends all = alone scope level (Paren inner) tokens rest refl tt below is high ends all
-  comes (Index pos array index) scope level tokens rest below is high ends all = alone scope level (Index pos array index) tokens rest refl tt below is high ends all
-  comes (Call pos function arguments) scope level tokens rest below is high ends all = alone scope level (Call pos function arguments) tokens rest refl tt below is high ends all
-  comes (Member pos access whole x) scope level tokens rest below is high ends all = alone scope level (Member pos access whole x) tokens rest refl tt below is high ends all
-  comes (Postfix' pos operator operand) scope level tokens rest below is high ends all = alone scope level (Postfix' pos operator operand) tokens rest refl tt below is high ends all
-  comes (Prefix' pos operator operand) scope level tokens rest below is high ends all = alone scope level (Prefix' pos operator operand) tokens rest refl tt below is high ends all
-  comes (Measure' pos operator type) scope level tokens rest below is high ends all = alone scope level (Measure' pos operator type) tokens rest refl tt below is high ends all
-  comes (Cast pos type operand) scope level tokens rest below is high ends all = alone scope level (Cast pos type operand) tokens rest refl tt below is high ends all
-  comes (Infix' pos operator left right) scope level tokens rest below is high ends all =
+  types_seen : (e : Expr) (scope : Scope) (level : ℕ) (tokens rest : List Token) → level ≤ unary → IsExpr e scope level → height e ≤ suc k → EndsExpr (right_side e) rest → Takes tokens (spell e) rest → Comes scope level e tokens rest
+  types_seen (Const pos constant) scope level tokens rest below is high ends all = alone scope level (Const pos constant) tokens rest refl tt below is high ends all
+  types_seen (Id pos x) scope level tokens rest below is high ends all = alone scope level (Id pos x) tokens rest refl tt below is high ends all
+  types_seen (Text pos text) scope level tokens rest below is high ends all = alone scope level (Text pos text) tokens rest refl tt below is high ends all
+  types_seen (Paren inner) scope level tokens rest below is high ends all = alone scope level (Paren inner) tokens rest refl tt below is high ends all
+  types_seen (Index pos array index) scope level tokens rest below is high ends all = alone scope level (Index pos array index) tokens rest refl tt below is high ends all
+  types_seen (Call pos function arguments) scope level tokens rest below is high ends all = alone scope level (Call pos function arguments) tokens rest refl tt below is high ends all
+  types_seen (Member pos access whole x) scope level tokens rest below is high ends all = alone scope level (Member pos access whole x) tokens rest refl tt below is high ends all
+  types_seen (PostfixOp pos operator operand) scope level tokens rest below is high ends all = alone scope level (PostfixOp pos operator operand) tokens rest refl tt below is high ends all
+  types_seen (PrefixOp pos operator operand) scope level tokens rest below is high ends all = alone scope level (PrefixOp pos operator operand) tokens rest refl tt below is high ends all
+  types_seen (MeasureOp pos operator type) scope level tokens rest below is high ends all = alone scope level (MeasureOp pos operator type) tokens rest refl tt below is high ends all
+  types_seen (Cast pos type operand) scope level tokens rest below is high ends all = alone scope level (Cast pos type operand) tokens rest refl tt below is high ends all
+  types_seen (InfixOp pos operator left right) scope level tokens rest below is high ends all =
       let behind = mark_at pos (infix_token operator) ∷ spell right in
       let both = takes_parted tokens rest (spell left) behind all in
       let f = front both.mid rest behind both.two in
       let down : level ≤ left_level operator = let h = infix_below_left operator in omega (arith, is.0) in
-      let x = comes left scope level tokens both.mid below (is_down left scope level (left_level operator) down is.1) (omega arith) (ends_infix (right_side left) both.mid operator f.0 (below_side left scope operator is.1)) both.one in
-      extend scope level (Infix' pos operator left right) left tokens both.mid rest refl (omega arith) (infix_goes scope level operator left both.mid f.0 is.0 is.1) (infix_step scope pos operator left right both.mid rest is.2 (omega arith) ends both.two) x
-  comes (Cond pos test then else) scope level tokens rest below is high ends all =
+      let x = types_seen left scope level tokens both.mid below (is_down left scope level (left_level operator) down is.1) (omega arith) (ends_infix (right_side left) both.mid operator f.0 (below_side left scope operator is.1)) both.one in
+      extend scope level (InfixOp pos operator left right) left tokens both.mid rest refl (omega arith) (infix_goes scope level operator left both.mid f.0 is.0 is.1) (infix_step scope pos operator left right both.mid rest is.2 (omega arith) ends both.two) x
+  types_seen (Cond pos test then else) scope level tokens rest below is high ends all =
       let middle = mark_at pos p.Question ∷ spell then in
       let both = takes_parted tokens rest (spell test ++ middle) (mark p.Colon ∷ spell else) all in
       let front_of = takes_parted tokens both.mid (spell test) middle both.one in
       let f = front front_of.mid both.mid middle front_of.two in
-      let x = comes test scope level tokens front_of.mid below (is_down test scope level logical_or (omega (arith, is.0)) is.1) (omega arith) (ends_question (right_side test) front_of.mid f.0 (below_question test scope is.1)) front_of.one in
+      let x = types_seen test scope level tokens front_of.mid below (is_down test scope level logical_or (omega (arith, is.0)) is.1) (omega arith) (ends_question (right_side test) front_of.mid f.0 (below_question test scope is.1)) front_of.one in
       extend scope level (Cond pos test then else) test tokens front_of.mid rest refl (omega arith) (cond_goes scope level test front_of.mid f.0 is.0 is.1)
       (cond_step scope pos test then else front_of.mid both.mid rest is.2 is.3 (omega arith) (omega arith) ends front_of.two both.two) x
 
   pub infix_full : (scope : Scope) (level : ℕ) (e : Expr) (tokens rest : List Token) → level ≤ unary → IsExpr e scope level → height e ≤ suc k → EndsExpr level rest → Takes tokens (spell e) rest → expr_at k low scope level tokens ≡ Found e rest
   unfolding expr_at infixes climbing
   infix_full scope level e tokens rest below is high ends all =
-      let x = comes e scope level tokens rest below is high (ends_up level (right_side e) rest (above_side e scope level below is) ends) all in
+      let x = types_seen e scope level tokens rest below is high (ends_up level (right_side e) rest (above_side e scope level below is) ends) all in
       let same : k ≡ (k - turns e) + turns e = let h = turns_low e in omega arith in
       then_read _ _ x.first x.mid _ x.reads
       (ap (λ n. climbing scope level n x.first x.mid) same ∙ x.climbs (k - turns e)

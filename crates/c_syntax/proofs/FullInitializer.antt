@@ -4,10 +4,10 @@ use borrow.Author.Tests.{le-leb}
 use Rattle.critical_table.specs.declared.pos.Pos.{Pos}
 use Rattle.c_lexer.specs.declared.punct.Punct.TheVariants as p
 use Rattle.c_lexer.specs.declared.token.Token.{Token}
-use Rattle.c_lexer.specs.declared.token.Body.TheVariants as body
+use Rattle.c_lexer.specs.declared.token.Body.TheVariants as lexeme
 use Rattle.c_syntax.specs.Levels.{assignment, conditional}
 use Rattle.c_syntax.specs.HeightUnit.{initializer_height, item_height, items_height}
-use Rattle.c_syntax.specs.Reader.{Found, Reader, ◌>>=◌, give, stop, skip, exactly, Unfit, seen, place, tail}
+use Rattle.c_syntax.specs.Parser.{Found, Parser, ◌>>=◌, pure, fail, skip, expect, Unfit, next_body, place, tail}
 use Rattle.c_syntax.specs.ReadBody.{items, begins_initializer, begins_item, Initializers, listed_items, braces, initializer_at, member_item, index_item, item_at, initializers}
 use Rattle.c_syntax.specs.ReadExpr.{begins_expr}
 use Rattle.c_syntax.specs.ReadToken.{is_mark, name_of}
@@ -19,13 +19,13 @@ use Rattle.c_syntax.specs.Tokens.{mark, mark_at, name, commas, comma_if}
 use Rattle.c_syntax.specs.Tree.{Expr}
 use Rattle.c_syntax.specs.TreeUnit.{Initializer, Single, Braces, Item, Plain, ForMember, ForIndex, Items, NoItem, MoreItems}
 use Rattle.c_syntax.specs.WellFormedUnit.{HasItem, IsInitializer, IsItem, AreItems}
-use Rattle.c_syntax.proofs.Again.{front, then_read, look_at, chosen_first, chosen_second, deeper_again, exactly_again, Behind, listed_again, behind_commas}
+use Rattle.c_syntax.proofs.Again.{front, then_read, peek_at, chosen_first, chosen_second, deeper_again, expect_again, Behind, listed_again, behind_commas}
 use Rattle.c_syntax.proofs.BodyTokens.{no_mark, initializer_begins, item_begins}
 use Rattle.c_syntax.proofs.Ends.{ends_closed, ends_infix}
 use Rattle.c_syntax.specs.declared.operator.Infix.TheVariants as between
 use Rattle.c_syntax.proofs.FirstTokens.{expr_begins}
 use Rattle.c_syntax.proofs.Full.{EndsExpr}
-use Rattle.c_syntax.proofs.FullDeclarator.{readers_full}
+use Rattle.c_syntax.proofs.FullDeclarator.{parsers_full}
 use Rattle.c_syntax.proofs.FullPostfix.{ends_listed}
 use Rattle.c_syntax.proofs.HeightLaws.{expr_high, initializer_high}
 use Rattle.c_syntax.proofs.Takes.{Takes, takes_parted}
@@ -51,18 +51,18 @@ items_again NoItem = refl
 items_again (MoreItems first rest) = ap (MoreItems first) (items_again rest)
 
 -- a comma behind the last item, or the closing brace
-ends_comma : (comma : Bool) (tokens rest : List Token) → seen rest ≡ Some (body.Mark p.CloseBrace) → Takes tokens (comma_if comma) rest → EndsExpr assignment tokens
+ends_comma : (comma : Bool) (tokens rest : List Token) → next_body rest ≡ Some (lexeme.Mark p.CloseBrace) → Takes tokens (comma_if comma) rest → EndsExpr assignment tokens
 ends_comma true tokens rest close all = ends_infix assignment tokens between.Comma (front tokens rest (mark p.Comma ∷ []) all).0 (omega arith)
-ends_comma false tokens rest close all = ends_closed assignment tokens p.CloseBrace (ap seen all ∙ close) (λ k low left. refl) refl refl
+ends_comma false tokens rest close all = ends_closed assignment tokens p.CloseBrace (ap next_body all ∙ close) (λ k low left. refl) refl refl
 
 module _ (k : ℕ) (low : Initializers) (full : FullInitializers k low) where
-  behind_items : (all : Items) (comma : Bool) (scope : Scope) (tokens mid rest : List Token) → AreItems all scope → items_height all ≤ k → seen rest ≡ Some (body.Mark p.CloseBrace)
+  behind_items : (all : Items) (comma : Bool) (scope : Scope) (tokens mid rest : List Token) → AreItems all scope → items_height all ≤ k → next_body rest ≡ Some (lexeme.Mark p.CloseBrace)
       → Takes tokens (behind_commas (spelled_items all)) mid → Takes mid (comma_if comma) rest
-      → Behind (is_mark p.Comma) (is_mark p.CloseBrace) (give tt) low.item (λ s one. s ++ item_adds one) (listed all) comma scope tokens rest
+      → Behind (is_mark p.Comma) (is_mark p.CloseBrace) (pure tt) low.item (λ s one. s ++ item_adds one) (listed all) comma scope tokens rest
   behind_items NoItem false scope tokens mid rest are high close all end = (all ∙ end, ap (is_mark p.Comma) close)
   behind_items NoItem true scope tokens mid rest are high close all end =
       let f = front tokens rest (mark p.Comma ∷ []) (subst (λ ts. Takes ts (mark p.Comma ∷ []) rest) (sym all) end) in
-      (ap (is_mark p.Comma) f.0, ap (λ ts. is_mark p.CloseBrace (seen ts)) f.2 ∙ ap (is_mark p.CloseBrace) close, ap (λ ts. Found tt ts) f.2, f.3)
+      (ap (is_mark p.Comma) f.0, ap (λ ts. is_mark p.CloseBrace (next_body ts)) f.2 ∙ ap (is_mark p.CloseBrace) close, ap (λ ts. Found tt ts) f.2, f.3)
   behind_items (MoreItems first more) comma scope tokens mid rest are high close all end =
       let both = takes_parted tokens mid (mark p.Comma ∷ spell_item first) (behind_commas (spelled_items more)) all in
       let f = front tokens both.mid (mark p.Comma ∷ spell_item first) both.one in
@@ -70,7 +70,7 @@ module _ (k : ℕ) (low : Initializers) (full : FullInitializers k low) where
       let begins = item_begins first scope (tail tokens) both.mid are.0 f.2 in (
         both.mid,
         ap (is_mark p.Comma) f.0,
-        no_mark p.CloseBrace (begins_item scope) (seen (tail tokens)) refl begins,
+        no_mark p.CloseBrace (begins_item scope) (next_body (tail tokens)) refl begins,
         full.item scope first (tail tokens) both.mid are.0 (omega arith) ends f.2,
         f.3,
         behind_items more comma (scope ++ item_adds first) both.mid mid rest are.1 (omega arith) close both.two end,
@@ -87,7 +87,7 @@ module _ (k : ℕ) (low : Initializers) (full : FullInitializers k low) where
       let one = full.item scope first tokens both.mid are.0 (omega arith) ends both.one in
       let behind = behind_items more comma (scope ++ item_adds first) both.mid mid end are.1 (omega arith) g.0 both.two dot in
       then_read _ _ _ end _ (listed_again _ _ _ _ _ first (listed more) comma scope tokens both.mid end one behind)
-      (exactly_again (is_mark p.CloseBrace) _ end _ _ refl g.0
+      (expect_again (is_mark p.CloseBrace) _ end _ _ refl g.0
       (ap (λ more. Found (Braces pos (MoreItems first more) comma) (tail end)) (items_again more) ∙ ap (λ ts. Found (Braces pos (MoreItems first more) comma) ts) g.2))
 
   some_items : (all : Items) → HasItem all → 2 ≤ items_height all
@@ -98,23 +98,23 @@ module _ (k : ℕ) (low : Initializers) (full : FullInitializers k low) where
       → initializer_at k low scope tokens ≡ Found one rest
   unfolding initializer_at
   initializer_full scope (Single e) tokens rest is high ends all =
-      let none = no_mark p.OpenBrace (begins_expr scope) (seen tokens) refl (expr_begins e scope assignment tokens rest is all) in
-      chosen_second (is_mark p.OpenBrace (seen tokens)) _ _ tokens _ none
-      (then_read _ _ e rest _ ((readers_full (suc k)).expr scope assignment e tokens rest (omega arith) is high ends all) refl)
+      let none = no_mark p.OpenBrace (begins_expr scope) (next_body tokens) refl (expr_begins e scope assignment tokens rest is all) in
+      chosen_second (is_mark p.OpenBrace (next_body tokens)) _ _ tokens _ none
+      (then_read _ _ e rest _ ((parsers_full (suc k)).expr scope assignment e tokens rest (omega arith) is high ends all) refl)
   initializer_full scope (Braces pos items comma) tokens rest is high ends all =
       let list = mark_at pos p.OpenBrace ∷ commas (spelled_items items) in
       let close = takes_parted tokens rest (list ++ comma_if comma) (mark p.CloseBrace ∷ []) all in
       let both = takes_parted tokens close.mid list (comma_if comma) close.one in
       let f = front tokens both.mid list both.one in
       let two : 2 ≤ k = let h = some_items items is.0 in omega arith in
-      chosen_first (is_mark p.OpenBrace (seen tokens)) _ _ tokens _ (ap (is_mark p.OpenBrace) f.0)
+      chosen_first (is_mark p.OpenBrace (next_body tokens)) _ _ tokens _ (ap (is_mark p.OpenBrace) f.0)
       (chosen_first (nat_le 2 k) _ _ tokens _ (le-leb 2 k two)
       (braces_again items comma scope (place tokens) (tail tokens) both.mid close.mid rest is.0 is.1 (omega arith) f.2 both.two close.two
       ∙ ap (λ pos. Found (Braces pos items comma) rest) f.1))
 
-  abbrev named_item : Scope → Pos → Option (List ℕ) → Reader Item
-  named_item scope pos None = stop Unfit
-  named_item scope pos (Some x) = skip (exactly (is_mark p.Assign) >>= λ _. low.initializer scope >>= λ value. give (ForMember pos x value))
+  abbrev named_item : Scope → Pos → Option (List ℕ) → Parser Item
+  named_item scope pos None = fail Unfit
+  named_item scope pos (Some x) = skip (expect (is_mark p.Assign) >>= λ _. low.initializer scope >>= λ value. pure (ForMember pos x value))
 
   member_again : (scope : Scope) (pos : Pos) (x : List ℕ) (one : Initializer) (tokens rest : List Token) → IsInitializer one scope → initializer_height one ≤ k → EndsExpr assignment rest
       → Takes tokens (name x ∷ mark p.Assign ∷ spell_initializer one) rest → member_item k low scope pos tokens ≡ Found (ForMember pos x one) rest
@@ -122,8 +122,8 @@ module _ (k : ℕ) (low : Initializers) (full : FullInitializers k low) where
   member_again scope pos x one tokens rest is high ends all =
       let f = front tokens rest (name x ∷ mark p.Assign ∷ spell_initializer one) all in
       let g = front (tail tokens) rest (mark p.Assign ∷ spell_initializer one) f.2 in
-      look_at (λ o. named_item scope pos (name_of o)) tokens _ _ f.0
-      (exactly_again (is_mark p.Assign) _ (tail tokens) _ _ refl g.0 (then_read _ _ one rest _ (full.initializer scope one (tail (tail tokens)) rest is high ends g.2) refl))
+      peek_at (λ o. named_item scope pos (name_of o)) tokens _ _ f.0
+      (expect_again (is_mark p.Assign) _ (tail tokens) _ _ refl g.0 (then_read _ _ one rest _ (full.initializer scope one (tail (tail tokens)) rest is high ends g.2) refl))
 
   index_again : (scope : Scope) (pos : Pos) (index : Expr) (one : Initializer) (tokens rest : List Token) → IsItem (ForIndex pos index one) scope → item_height (ForIndex pos index one) ≤ suc k → EndsExpr assignment rest
       → Takes tokens (spell index ++ mark p.CloseBracket ∷ mark p.Assign ∷ spell_initializer one) rest → index_item k low scope pos tokens ≡ Found (ForIndex pos index one) rest
@@ -133,9 +133,9 @@ module _ (k : ℕ) (low : Initializers) (full : FullInitializers k low) where
       let f = front x.mid rest (mark p.CloseBracket ∷ mark p.Assign ∷ spell_initializer one) x.two in
       let g = front (tail x.mid) rest (mark p.Assign ∷ spell_initializer one) f.2 in
       let closed = ends_closed conditional x.mid p.CloseBracket f.0 (λ k low left. refl) refl refl in
-      then_read _ _ index x.mid _ ((readers_full k).expr scope conditional index tokens x.mid (omega arith) is.0 (omega arith) closed x.one)
-      (exactly_again (is_mark p.CloseBracket) _ x.mid _ _ refl f.0
-      (exactly_again (is_mark p.Assign) _ (tail x.mid) _ _ refl g.0
+      then_read _ _ index x.mid _ ((parsers_full k).expr scope conditional index tokens x.mid (omega arith) is.0 (omega arith) closed x.one)
+      (expect_again (is_mark p.CloseBracket) _ x.mid _ _ refl f.0
+      (expect_again (is_mark p.Assign) _ (tail x.mid) _ _ refl g.0
       (then_read _ _ one rest _ (full.initializer (scope ++ expr_adds index) one (tail (tail x.mid)) rest is.1 (omega arith) ends g.2) refl)))
 
   item_full : (scope : Scope) (one : Item) (tokens rest : List Token) → IsItem one scope → item_height one ≤ suc k → EndsExpr assignment rest → Takes tokens (spell_item one) rest
@@ -143,20 +143,20 @@ module _ (k : ℕ) (low : Initializers) (full : FullInitializers k low) where
   unfolding item_at
   item_full scope (Plain one) tokens rest is high ends all =
       let begins = initializer_begins one scope tokens rest is all in
-      chosen_second (is_mark p.Dot (seen tokens)) _ _ tokens _ (no_mark p.Dot (begins_initializer scope) (seen tokens) refl begins)
-      (chosen_second (is_mark p.OpenBracket (seen tokens)) _ _ tokens _ (no_mark p.OpenBracket (begins_initializer scope) (seen tokens) refl begins)
+      chosen_second (is_mark p.Dot (next_body tokens)) _ _ tokens _ (no_mark p.Dot (begins_initializer scope) (next_body tokens) refl begins)
+      (chosen_second (is_mark p.OpenBracket (next_body tokens)) _ _ tokens _ (no_mark p.OpenBracket (begins_initializer scope) (next_body tokens) refl begins)
       (then_read _ _ one rest _ (full.initializer scope one tokens rest is (omega arith) ends all) refl))
   item_full scope (ForMember pos x one) tokens rest is high ends all =
       let f = front tokens rest (spell_item (ForMember pos x one)) all in
       let some : 0 < k = let h = initializer_high one in omega arith in
-      chosen_first (is_mark p.Dot (seen tokens)) _ _ tokens _ (ap (is_mark p.Dot) f.0)
+      chosen_first (is_mark p.Dot (next_body tokens)) _ _ tokens _ (ap (is_mark p.Dot) f.0)
       (deeper_again k _ tokens _ some
       (member_again scope (place tokens) x one (tail tokens) rest is (omega arith) ends f.2 ∙ ap (λ pos. Found (ForMember pos x one) rest) f.1))
   item_full scope (ForIndex pos index one) tokens rest is high ends all =
       let f = front tokens rest (spell_item (ForIndex pos index one)) all in
       let some : 0 < k = let h = expr_high index in omega arith in
-      chosen_second (is_mark p.Dot (seen tokens)) _ _ tokens _ (ap (is_mark p.Dot) f.0)
-      (chosen_first (is_mark p.OpenBracket (seen tokens)) _ _ tokens _ (ap (is_mark p.OpenBracket) f.0)
+      chosen_second (is_mark p.Dot (next_body tokens)) _ _ tokens _ (ap (is_mark p.Dot) f.0)
+      (chosen_first (is_mark p.OpenBracket (next_body tokens)) _ _ tokens _ (ap (is_mark p.OpenBracket) f.0)
       (deeper_again k _ tokens _ some
       (index_again scope (place tokens) index one (tail tokens) rest is high ends f.2 ∙ ap (λ pos. Found (ForIndex pos index one) rest) f.1)))
 

@@ -6,7 +6,7 @@ use Rattle.critical_table.specs.declared.pos.Pos.{Pos}
 use Rattle.c_lexer.specs.declared.punct.Punct.TheVariants as p
 use Rattle.c_lexer.specs.declared.token.Token.{Token}
 use Rattle.c_lexer.specs.declared.token.Body.{Body}
-use Rattle.c_lexer.specs.declared.token.Body.TheVariants as body
+use Rattle.c_lexer.specs.declared.token.Body.TheVariants as lexeme
 use Rattle.c_syntax.specs.declared.expression.Constant.TheVariants as constant
 use Rattle.c_syntax.specs.declared.operator.Access.{Access}
 use Rattle.c_syntax.specs.declared.operator.Access.TheVariants as access
@@ -15,16 +15,16 @@ use Rattle.c_syntax.specs.declared.operator.Postfix.TheVariants as postfix
 use Rattle.c_syntax.specs.Height.{height, exprs_height}
 use Rattle.c_syntax.specs.Levels.{expression, assignment, unary, postfix as postfix_level}
 use Rattle.c_syntax.specs.Operators.{access_token, postfix_token}
-use Rattle.c_syntax.specs.Reader.{Found, Reader, ◌>>=◌, give, seen, place, tail, exactly, climb}
-use Rattle.c_syntax.specs.ReadExpr.{Readers, begins_expr, named, piece_by, piece, pieces, goes_postfix, listed_arguments, arguments_by, arguments, index, call, access_name, step_by_one, postfix_by, postfix_on, postfixes, grouped, inside, text, unary_by, unary_at}
+use Rattle.c_syntax.specs.Parser.{Found, Parser, ◌>>=◌, pure, next_body, place, tail, expect, climb}
+use Rattle.c_syntax.specs.ReadExpr.{Parsers, begins_expr, with_name, piece_by, piece, pieces, goes_postfix, listed_arguments, arguments_by, arguments, index, call, access_name, step_by_one, postfix_by, postfix_on, postfixes, paren_expr, inside, text, unary_by, unary_at}
 use Rattle.c_syntax.specs.ReadToken.{is_mark, name_of, begins_type, is_literal}
 use Rattle.c_syntax.specs.Scopes.{Scope, expr_adds}
 use Rattle.c_syntax.specs.Spelling.{spell, spelled_arguments}
 use Rattle.c_syntax.specs.Tokens.{bare, mark, mark_at, name, commas, spell_pieces}
-use Rattle.c_syntax.specs.Tree.{Expr, Const, Id, Text, Paren, Index, Call, Member, Postfix', Prefix', Measure', Cast, Infix', Cond, Exprs, NoExpr, MoreExprs}
+use Rattle.c_syntax.specs.Tree.{Expr, Const, Id, Text, Paren, Index, Call, Member, PostfixOp, PrefixOp, MeasureOp, Cast, InfixOp, Cond, Exprs, NoExpr, MoreExprs}
 use Rattle.c_syntax.specs.View.{exprs}
 use Rattle.c_syntax.specs.WellFormed.{IsExpr, AreArguments}
-use Rattle.c_syntax.proofs.Again.{front, tail_shorter, then_read, look_at, read_at, chosen_second, deeper_again, exactly_again, wanted_again, Each, many_again, climb_over, climb_step, Behind, listed_again, behind_commas, behind_seen}
+use Rattle.c_syntax.proofs.Again.{front, tail_shorter, then_read, peek_at, read_at, chosen_second, deeper_again, expect_again, expr_lower_again, Each, many_again, climb_over, climb_step, Behind, listed_again, behind_commas, behind_seen}
 use Rattle.c_syntax.proofs.Ends.{ends_closed, ends_infix}
 use Rattle.c_syntax.specs.declared.operator.Infix.TheVariants as between
 use Rattle.c_syntax.proofs.FirstTokens.{expr_begins, begins_no_type}
@@ -35,15 +35,15 @@ use Rattle.c_syntax.proofs.Takes.{Takes, takes_parted}
 
 -- ---- adjacent literals
 
-each_piece : (wide : Bool) (all : List (List ℤ)) (tokens rest : List Token) → is_literal wide (seen rest) ≡ false → Takes tokens (map (λ more. bare (body.Literal more wide)) all) rest
+each_piece : (wide : Bool) (all : List (List ℤ)) (tokens rest : List Token) → is_literal wide (next_body rest) ≡ false → Takes tokens (map (λ more. bare (lexeme.Literal more wide)) all) rest
     → Each (λ s o. is_literal wide o) (λ (s : Bool). piece) (λ s units. s) all wide tokens rest
 unfolding piece
 each_piece wide [] tokens rest ends all = (all, ends)
 each_piece wide (units ∷ more) tokens rest ends all =
-    let f = front tokens rest (map (λ more. bare (body.Literal more wide)) (units ∷ more)) all in
-    (tail tokens, ap (is_literal wide) f.0 ∙ own wide, look_at piece_by tokens _ _ f.0 refl, tail_shorter tokens _ f.0, each_piece wide more (tail tokens) rest ends f.2)
+    let f = front tokens rest (map (λ more. bare (lexeme.Literal more wide)) (units ∷ more)) all in
+    (tail tokens, ap (is_literal wide) f.0 ∙ own wide, peek_at piece_by tokens _ _ f.0 refl, tail_shorter tokens _ f.0, each_piece wide more (tail tokens) rest ends f.2)
   where
-    own : (wide : Bool) → is_literal wide (Some (body.Literal units wide)) ≡ true
+    own : (wide : Bool) → is_literal wide (Some (lexeme.Literal units wide)) ≡ true
     own true = refl
     own false = refl
 
@@ -56,7 +56,7 @@ ends_listed level parts tokens rest high ends all = elim (behind_seen parts toke
   | inr e ↦ subst (EndsExpr level) (sym e) ends
 ]
 
-pub ends_paren : (level : ℕ) (tokens : List Token) → seen tokens ≡ Some (body.Mark p.CloseParen) → EndsExpr level tokens
+pub ends_paren : (level : ℕ) (tokens : List Token) → next_body tokens ≡ Some (lexeme.Mark p.CloseParen) → EndsExpr level tokens
 ends_paren level tokens e = ends_closed level tokens p.CloseParen e (λ k low left. refl) refl refl
 
 abbrev listed_exprs : Exprs → List Expr
@@ -72,7 +72,7 @@ abbrev pub turns : Expr → ℕ
 turns (Index pos array index) = suc (turns array)
 turns (Call pos function arguments) = suc (turns function)
 turns (Member pos access whole x) = suc (turns whole)
-turns (Postfix' pos operator operand) = suc (turns operand)
+turns (PostfixOp pos operator operand) = suc (turns operand)
 turns _ = 0
 
 turns_low : (e : Expr) → turns e < height e
@@ -83,11 +83,11 @@ turns_low (Paren inner) = omega arith
 turns_low (Index pos array index) = omega (arith, turns_low array)
 turns_low (Call pos function arguments) = omega (arith, turns_low function)
 turns_low (Member pos access whole x) = omega (arith, turns_low whole)
-turns_low (Postfix' pos operator operand) = omega (arith, turns_low operand)
-turns_low (Prefix' pos operator operand) = omega arith
-turns_low (Measure' pos operator type) = omega arith
+turns_low (PostfixOp pos operator operand) = omega (arith, turns_low operand)
+turns_low (PrefixOp pos operator operand) = omega arith
+turns_low (MeasureOp pos operator type) = omega arith
 turns_low (Cast pos type operand) = omega arith
-turns_low (Infix' pos operator left right) = omega arith
+turns_low (InfixOp pos operator left right) = omega arith
 turns_low (Cond pos test then else) = omega arith
 
 -- 6.5.1
@@ -98,9 +98,9 @@ IsPrimary (Text pos text) = Unit {0}
 IsPrimary (Paren inner) = Unit {0}
 IsPrimary _ = ⊥
 
-module _ (k : ℕ) (low : Readers) (full : AllFull k low) where
-  behind_arguments : (all : Exprs) (scope : Scope) (tokens rest : List Token) → AreArguments all scope → exprs_height all ≤ k → seen rest ≡ Some (body.Mark p.CloseParen) → Takes tokens (behind_commas (spelled_arguments all)) rest
-      → Behind (is_mark p.Comma) (λ o. false) (give tt) (λ s. low.expr s assignment) (λ s e. s ++ expr_adds e) (listed_exprs all) false scope tokens rest
+module _ (k : ℕ) (low : Parsers) (full : AllFull k low) where
+  behind_arguments : (all : Exprs) (scope : Scope) (tokens rest : List Token) → AreArguments all scope → exprs_height all ≤ k → next_body rest ≡ Some (lexeme.Mark p.CloseParen) → Takes tokens (behind_commas (spelled_arguments all)) rest
+      → Behind (is_mark p.Comma) (λ o. false) (pure tt) (λ s. low.expr s assignment) (λ s e. s ++ expr_adds e) (listed_exprs all) false scope tokens rest
   behind_arguments NoExpr scope tokens rest are high close all = (all, ap (is_mark p.Comma) close)
   behind_arguments (MoreExprs first more) scope tokens rest are high close all =
       let both = takes_parted tokens rest (mark p.Comma ∷ spell first) (behind_commas (spelled_arguments more)) all in
@@ -109,23 +109,23 @@ module _ (k : ℕ) (low : Readers) (full : AllFull k low) where
       (both.mid, ap (is_mark p.Comma) f.0, refl, full.expr scope assignment first (tail tokens) both.mid (omega arith) are.0 (omega arith) ends f.2, f.3, behind_arguments more (scope ++ expr_adds first) both.mid rest are.1 (omega arith) close both.two)
 
   arguments_open : (scope at : Scope) (o : Option Body) (tokens : List Token) → begins_expr at o ≡ true
-      → arguments_by k low scope o tokens ≡ (listed_arguments k low scope >>= λ all. exactly (is_mark p.CloseParen) >>= λ _. give (exprs all.0)) tokens
-  arguments_open scope at (Some (body.Mark p.CloseParen)) tokens begins = absurd (cc)
+      → arguments_by k low scope o tokens ≡ (listed_arguments k low scope >>= λ all. expect (is_mark p.CloseParen) >>= λ _. pure (exprs all.0)) tokens
+  arguments_open scope at (Some (lexeme.Mark p.CloseParen)) tokens begins = absurd (cc)
   arguments_open scope at o tokens begins = refl
 
-  arguments_again : (all : Exprs) (scope : Scope) (tokens rest : List Token) → AreArguments all scope → exprs_height all ≤ k → seen rest ≡ Some (body.Mark p.CloseParen) → Takes tokens (commas (spelled_arguments all)) rest
+  arguments_again : (all : Exprs) (scope : Scope) (tokens rest : List Token) → AreArguments all scope → exprs_height all ≤ k → next_body rest ≡ Some (lexeme.Mark p.CloseParen) → Takes tokens (commas (spelled_arguments all)) rest
       → arguments k low scope tokens ≡ Found all (tail rest)
   unfolding arguments listed_arguments
   arguments_again NoExpr scope tokens rest are high close all =
-      look_at (arguments_by k low scope) tokens _ _ (ap seen all ∙ close) (ap (λ ts. Found NoExpr (tail ts)) all)
+      peek_at (arguments_by k low scope) tokens _ _ (ap next_body all ∙ close) (ap (λ ts. Found NoExpr (tail ts)) all)
   arguments_again (MoreExprs first more) scope tokens rest are high close all =
       let both = takes_parted tokens rest (spell first) (behind_commas (spelled_arguments more)) all in
       let ends = ends_listed assignment (spelled_arguments more) both.mid rest (omega arith) (ends_paren assignment rest close) both.two in
       let one = full.expr scope assignment first tokens both.mid (omega arith) are.0 (omega arith) ends both.one in
       let behind = behind_arguments more (scope ++ expr_adds first) both.mid rest are.1 (omega arith) close both.two in
-      arguments_open scope scope (seen tokens) tokens (expr_begins first scope assignment tokens both.mid are.0 both.one)
+      arguments_open scope scope (next_body tokens) tokens (expr_begins first scope assignment tokens both.mid are.0 both.one)
       ∙ then_read _ _ _ rest _ (listed_again _ _ _ _ _ first (listed_exprs more) false scope tokens both.mid rest one behind)
-      (exactly_again (is_mark p.CloseParen) _ rest _ _ refl close (ap (λ more. Found (MoreExprs first more) (tail rest)) (exprs_again more)))
+      (expect_again (is_mark p.CloseParen) _ rest _ _ refl close (ap (λ more. Found (MoreExprs first more) (tail rest)) (exprs_again more)))
 
   -- ---- postfix operators
 
@@ -136,9 +136,9 @@ module _ (k : ℕ) (low : Readers) (full : AllFull k low) where
       let f = front tokens mid (mark_at pos p.OpenBracket ∷ spell inside) all in
       let g = front mid rest (mark p.CloseBracket ∷ []) close in
       let ends = ends_closed expression mid p.CloseBracket g.0 (λ k low left. refl) refl refl in
-      look_at (postfix_by k low scope array) tokens _ _ f.0
+      peek_at (postfix_by k low scope array) tokens _ _ f.0
       (then_read _ _ inside mid _ (full.expr (scope ++ expr_adds array) expression inside (tail tokens) mid (omega arith) is high ends f.2)
-      (exactly_again (is_mark p.CloseBracket) _ mid _ _ refl g.0 (ap (λ pos. Found (Index pos array inside) (tail mid)) f.1 ∙ ap (λ ts. Found (Index pos array inside) ts) g.2)))
+      (expect_again (is_mark p.CloseBracket) _ mid _ _ refl g.0 (ap (λ pos. Found (Index pos array inside) (tail mid)) f.1 ∙ ap (λ ts. Found (Index pos array inside) ts) g.2)))
 
   call_again : (scope : Scope) (pos : Pos) (function : Expr) (all : Exprs) (tokens mid rest : List Token) → AreArguments all (scope ++ expr_adds function) → exprs_height all ≤ k → Takes tokens (mark_at pos p.OpenParen ∷ commas (spelled_arguments all)) mid → Takes mid (mark p.CloseParen ∷ []) rest
       → postfix_on k low scope function tokens ≡ Found (Call pos function all) rest
@@ -146,15 +146,15 @@ module _ (k : ℕ) (low : Readers) (full : AllFull k low) where
   call_again scope pos function arguments tokens mid rest are high all close =
       let f = front tokens mid (mark_at pos p.OpenParen ∷ commas (spelled_arguments arguments)) all in
       let g = front mid rest (mark p.CloseParen ∷ []) close in
-      look_at (postfix_by k low scope function) tokens _ _ f.0
+      peek_at (postfix_by k low scope function) tokens _ _ f.0
       (then_read _ _ arguments (tail mid) _ (arguments_again arguments (scope ++ expr_adds function) (tail tokens) mid are high g.0 f.2)
       (ap (λ pos. Found (Call pos function arguments) (tail mid)) f.1 ∙ ap (λ ts. Found (Call pos function arguments) ts) g.2))
 
-  member_by : (scope : Scope) (operator : Access) (whole : Expr) (tokens : List Token) → postfix_by k low scope whole (Some (body.Mark (access_token operator))) tokens ≡ access_name operator whole tokens
+  member_by : (scope : Scope) (operator : Access) (whole : Expr) (tokens : List Token) → postfix_by k low scope whole (Some (lexeme.Mark (access_token operator))) tokens ≡ access_name operator whole tokens
   member_by scope access.Dot whole tokens = refl
   member_by scope access.Arrow whole tokens = refl
 
-  member_goes : (operator : Access) (whole : Expr) → goes_postfix whole (Some (body.Mark (access_token operator))) ≡ true
+  member_goes : (operator : Access) (whole : Expr) → goes_postfix whole (Some (lexeme.Mark (access_token operator))) ≡ true
   member_goes access.Dot whole = refl
   member_goes access.Arrow whole = refl
 
@@ -164,30 +164,30 @@ module _ (k : ℕ) (low : Readers) (full : AllFull k low) where
   member_again scope pos operator whole x tokens rest all =
       let f = front tokens rest (mark_at pos (access_token operator) ∷ name x ∷ []) all in
       let g = front (tail tokens) rest (name x ∷ []) f.2 in
-      look_at (postfix_by k low scope whole) tokens _ _ f.0
+      peek_at (postfix_by k low scope whole) tokens _ _ f.0
       (member_by scope operator whole tokens
-      ∙ ap (λ o. named (name_of o) (λ x. give (Member (place tokens) operator whole x)) (tail tokens)) g.0
+      ∙ ap (λ o. with_name (name_of o) (λ x. pure (Member (place tokens) operator whole x)) (tail tokens)) g.0
       ∙ ap (λ pos. Found (Member pos operator whole x) (tail (tail tokens))) f.1 ∙ ap (λ ts. Found (Member pos operator whole x) ts) g.2)
 
-  step_by : (scope : Scope) (operator : Postfix) (operand : Expr) (tokens : List Token) → postfix_by k low scope operand (Some (body.Mark (postfix_token operator))) tokens ≡ step_by_one operator operand tokens
+  step_by : (scope : Scope) (operator : Postfix) (operand : Expr) (tokens : List Token) → postfix_by k low scope operand (Some (lexeme.Mark (postfix_token operator))) tokens ≡ step_by_one operator operand tokens
   step_by scope postfix.PostInc operand tokens = refl
   step_by scope postfix.PostDec operand tokens = refl
 
-  step_goes : (operator : Postfix) (operand : Expr) → goes_postfix operand (Some (body.Mark (postfix_token operator))) ≡ true
+  step_goes : (operator : Postfix) (operand : Expr) → goes_postfix operand (Some (lexeme.Mark (postfix_token operator))) ≡ true
   step_goes postfix.PostInc operand = refl
   step_goes postfix.PostDec operand = refl
 
   step_again : (scope : Scope) (pos : Pos) (operator : Postfix) (operand : Expr) (tokens rest : List Token) → Takes tokens (mark_at pos (postfix_token operator) ∷ []) rest
-      → postfix_on k low scope operand tokens ≡ Found (Postfix' pos operator operand) rest
+      → postfix_on k low scope operand tokens ≡ Found (PostfixOp pos operator operand) rest
   unfolding postfix_on step_by_one
   step_again scope pos operator operand tokens rest all =
       let f = front tokens rest (mark_at pos (postfix_token operator) ∷ []) all in
-      look_at (postfix_by k low scope operand) tokens _ _ f.0
-      (step_by scope operator operand tokens ∙ ap (λ pos. Found (Postfix' pos operator operand) (tail tokens)) f.1 ∙ ap (λ ts. Found (Postfix' pos operator operand) ts) f.2)
+      peek_at (postfix_by k low scope operand) tokens _ _ f.0
+      (step_by scope operator operand tokens ∙ ap (λ pos. Found (PostfixOp pos operator operand) (tail tokens)) f.1 ∙ ap (λ ts. Found (PostfixOp pos operator operand) ts) f.2)
 
   -- ---- the climb from the primary expression
 
-  pub climbing : Scope → ℕ → Expr → Reader Expr
+  pub climbing : Scope → ℕ → Expr → Parser Expr
   climbing scope = climb goes_postfix (λ e. nat_le (height e) k) (postfix_on k low scope)
 
   -- it comes by the expression
@@ -198,11 +198,11 @@ module _ (k : ℕ) (low : Readers) (full : AllFull k low) where
     pub fits : IsExpr first scope postfix_level
     pub within : height first ≤ suc k
     pub takes : Takes tokens (spell first) mid
-    pub no_literal : (wide : Bool) → is_literal wide (seen mid) ≡ false
+    pub no_literal : (wide : Bool) → is_literal wide (next_body mid) ≡ false
     pub climbs : (n : ℕ) → climbing scope (n + turns e) first mid ≡ climbing scope n e rest
     pub group : IsGrouped e → IsGrouped first
 
-  start : (scope : Scope) (e : Expr) (tokens rest : List Token) → turns e ≡ 0 → IsPrimary e → IsExpr e scope postfix_level → height e ≤ suc k → ((wide : Bool) → is_literal wide (seen rest) ≡ false) → Takes tokens (spell e) rest → Chain scope e tokens rest
+  start : (scope : Scope) (e : Expr) (tokens rest : List Token) → turns e ≡ 0 → IsPrimary e → IsExpr e scope postfix_level → height e ≤ suc k → ((wide : Bool) → is_literal wide (next_body rest) ≡ false) → Takes tokens (spell e) rest → Chain scope e tokens rest
   start scope e tokens rest none primary is high ends all = record {
     first = e;
     mid = rest;
@@ -215,7 +215,7 @@ module _ (k : ℕ) (low : Readers) (full : AllFull k low) where
     group = λ g. g;
   }
 
-  extend : (scope : Scope) (e left : Expr) (tokens mid rest : List Token) → turns e ≡ suc (turns left) → height left ≤ k → goes_postfix left (seen mid) ≡ true → postfix_on k low scope left mid ≡ Found e rest → (IsGrouped e → IsGrouped left) → Chain scope left tokens mid
+  extend : (scope : Scope) (e left : Expr) (tokens mid rest : List Token) → turns e ≡ suc (turns left) → height left ≤ k → goes_postfix left (next_body mid) ≡ true → postfix_on k low scope left mid ≡ Found e rest → (IsGrouped e → IsGrouped left) → Chain scope left tokens mid
       → Chain scope e tokens rest
   unfolding climbing
   extend scope e left tokens mid rest one high goes reads group x = record {
@@ -233,11 +233,11 @@ module _ (k : ℕ) (low : Readers) (full : AllFull k low) where
     group = λ g. x.group (group g);
   }
 
-  mark_ends : (mark : _) (tokens : List Token) → seen tokens ≡ Some (body.Mark mark) → (wide : Bool) → is_literal wide (seen tokens) ≡ false
+  mark_ends : (mark : _) (tokens : List Token) → next_body tokens ≡ Some (lexeme.Mark mark) → (wide : Bool) → is_literal wide (next_body tokens) ≡ false
   mark_ends mark tokens e true = ap (is_literal true) e
   mark_ends mark tokens e false = ap (is_literal false) e
 
-  pub chain : (e : Expr) (scope : Scope) (tokens rest : List Token) → IsExpr e scope postfix_level → height e ≤ suc k → ((wide : Bool) → is_literal wide (seen rest) ≡ false) → Takes tokens (spell e) rest → Chain scope e tokens rest
+  pub chain : (e : Expr) (scope : Scope) (tokens rest : List Token) → IsExpr e scope postfix_level → height e ≤ suc k → ((wide : Bool) → is_literal wide (next_body rest) ≡ false) → Takes tokens (spell e) rest → Chain scope e tokens rest
   chain (Const pos constant) scope tokens rest is high ends all = start scope (Const pos constant) tokens rest refl tt is high ends all
   chain (Id pos x) scope tokens rest is high ends all = start scope (Id pos x) tokens rest refl tt is high ends all
   chain (Text pos text) scope tokens rest is high ends all = start scope (Text pos text) tokens rest refl tt is high ends all
@@ -264,21 +264,21 @@ module _ (k : ℕ) (low : Readers) (full : AllFull k low) where
       extend scope (Member pos operator whole x) whole tokens both.mid rest refl (omega arith) (ap (goes_postfix whole) f.0 ∙ member_goes operator whole)
       (member_again scope pos operator whole x both.mid rest both.two) (λ g. g)
       (chain whole scope tokens both.mid is.1 (omega arith) (mark_ends _ both.mid f.0) both.one)
-  chain (Postfix' pos operator operand) scope tokens rest is high ends all =
+  chain (PostfixOp pos operator operand) scope tokens rest is high ends all =
       let behind = mark_at pos (postfix_token operator) ∷ [] in
       let both = takes_parted tokens rest (spell operand) behind all in
       let f = front both.mid rest behind both.two in
-      extend scope (Postfix' pos operator operand) operand tokens both.mid rest refl (omega arith) (ap (goes_postfix operand) f.0 ∙ step_goes operator operand)
+      extend scope (PostfixOp pos operator operand) operand tokens both.mid rest refl (omega arith) (ap (goes_postfix operand) f.0 ∙ step_goes operator operand)
       (step_again scope pos operator operand both.mid rest both.two) (λ g. g)
       (chain operand scope tokens both.mid is.1 (omega arith) (mark_ends _ both.mid f.0) both.one)
-  chain (Prefix' pos operator operand) scope tokens rest is high ends all = absurd (omega (arith, is.0))
-  chain (Measure' pos operator type) scope tokens rest is high ends all = absurd (omega (arith, is.0))
+  chain (PrefixOp pos operator operand) scope tokens rest is high ends all = absurd (omega (arith, is.0))
+  chain (MeasureOp pos operator type) scope tokens rest is high ends all = absurd (omega (arith, is.0))
   chain (Cast pos type operand) scope tokens rest is high ends all = absurd (omega (arith, is.0))
-  chain (Infix' pos operator left right) scope tokens rest is high ends all = absurd (let h = infix_low operator in omega (arith, is.0))
+  chain (InfixOp pos operator left right) scope tokens rest is high ends all = absurd (let h = infix_low operator in omega (arith, is.0))
   chain (Cond pos test then else) scope tokens rest is high ends all = absurd (omega (arith, is.0))
 
   -- where no postfix operator follows, it is over
-  pub chain_over : (scope : Scope) (e : Expr) (tokens rest : List Token) → height e ≤ suc k → goes_postfix e (seen rest) ≡ false → (x : Chain scope e tokens rest) → postfixes k low scope x.first x.mid ≡ Found e rest
+  pub chain_over : (scope : Scope) (e : Expr) (tokens rest : List Token) → height e ≤ suc k → goes_postfix e (next_body rest) ≡ false → (x : Chain scope e tokens rest) → postfixes k low scope x.first x.mid ≡ Found e rest
   unfolding postfixes climbing
   chain_over scope e tokens rest high over x =
       let same : k ≡ (k - turns e) + turns e = let h = turns_low e in omega arith in
@@ -287,17 +287,17 @@ module _ (k : ℕ) (low : Readers) (full : AllFull k low) where
 
   -- ---- primary expressions
 
-  pub group_again : (scope : Scope) (inner : Expr) (tokens rest : List Token) → IsExpr inner scope expression → suc (height inner) ≤ suc k → Takes tokens (spell inner ++ mark p.CloseParen ∷ []) rest → grouped k low scope tokens ≡ postfixes k low scope (Paren inner) rest
-  unfolding grouped
+  pub group_again : (scope : Scope) (inner : Expr) (tokens rest : List Token) → IsExpr inner scope expression → suc (height inner) ≤ suc k → Takes tokens (spell inner ++ mark p.CloseParen ∷ []) rest → paren_expr k low scope tokens ≡ postfixes k low scope (Paren inner) rest
+  unfolding paren_expr
   group_again scope inner tokens rest is high all =
       let both = takes_parted tokens rest (spell inner) (mark p.CloseParen ∷ []) all in
       let g = front both.mid rest (mark p.CloseParen ∷ []) both.two in
       let some : 0 < k = let h = expr_high inner in omega arith in
       let reads = full.expr scope expression inner tokens both.mid (omega arith) is (omega arith) (ends_paren expression both.mid g.0) both.one in
-      then_read _ _ inner both.mid _ (wanted_again scope k (low.expr scope expression) tokens _ (expr_begins inner scope expression tokens both.mid is both.one) some reads)
-      (exactly_again (is_mark p.CloseParen) _ both.mid _ _ refl g.0 (ap (λ ts. postfixes k low scope (Paren inner) ts) g.2))
+      then_read _ _ inner both.mid _ (expr_lower_again scope k (low.expr scope expression) tokens _ (expr_begins inner scope expression tokens both.mid is both.one) some reads)
+      (expect_again (is_mark p.CloseParen) _ both.mid _ _ refl g.0 (ap (λ ts. postfixes k low scope (Paren inner) ts) g.2))
 
-  text_again : (scope : Scope) (level : ℕ) (pos : Pos) (wide : Bool) (all : List (List ℤ)) (tokens rest : List Token) → (all ≡ [] → ⊥) → is_literal wide (seen rest) ≡ false → Takes tokens (spell_pieces (Some pos) wide all) rest
+  text_again : (scope : Scope) (level : ℕ) (pos : Pos) (wide : Bool) (all : List (List ℤ)) (tokens rest : List Token) → (all ≡ [] → ⊥) → is_literal wide (next_body rest) ≡ false → Takes tokens (spell_pieces (Some pos) wide all) rest
       → unary_at k low scope level tokens ≡ postfixes k low scope (Text pos (record { pieces = all; wide = wide })) rest
   unfolding unary_at text pieces
   text_again scope level pos wide [] tokens rest some ends all = absurd (some refl)
@@ -306,7 +306,7 @@ module _ (k : ℕ) (low : Readers) (full : AllFull k low) where
       read_at (unary_by k low scope level) tokens pos _ _ f.1 f.0
       (then_read _ _ more rest _ (many_again _ _ _ more wide (tail tokens) rest (each_piece wide more (tail tokens) rest ends f.2)) refl)
 
-  pub primary_again : (e : Expr) (scope : Scope) (level : ℕ) (tokens rest : List Token) → IsPrimary e → IsExpr e scope postfix_level → height e ≤ suc k → ((wide : Bool) → is_literal wide (seen rest) ≡ false) → Takes tokens (spell e) rest
+  pub primary_again : (e : Expr) (scope : Scope) (level : ℕ) (tokens rest : List Token) → IsPrimary e → IsExpr e scope postfix_level → height e ≤ suc k → ((wide : Bool) → is_literal wide (next_body rest) ≡ false) → Takes tokens (spell e) rest
       → unary_at k low scope level tokens ≡ postfixes k low scope e rest
   unfolding unary_at inside
   primary_again (Const pos (constant.Number number)) scope level tokens rest primary is high ends all =
@@ -324,16 +324,16 @@ module _ (k : ℕ) (low : Readers) (full : AllFull k low) where
       let some : 0 < k = let h = expr_high inner in omega arith in
       let both = takes_parted (tail tokens) rest (spell inner) (mark p.CloseParen ∷ []) f.2 in
       let no_type = begins_no_type inner scope expression (tail tokens) both.mid is both.one in
-      look_at (unary_by k low scope level (place tokens)) tokens _ _ f.0
-      (deeper_again k _ tokens _ some (chosen_second (begins_type scope (seen (tail tokens))) _ _ (tail tokens) _ no_type (group_again scope inner (tail tokens) rest is high f.2)))
+      peek_at (unary_by k low scope level (place tokens)) tokens _ _ f.0
+      (deeper_again k _ tokens _ some (chosen_second (begins_type scope (next_body (tail tokens))) _ _ (tail tokens) _ no_type (group_again scope inner (tail tokens) rest is high f.2)))
   primary_again (Index pos array inside) scope level tokens rest primary is high ends all = absurd primary
   primary_again (Call pos function arguments) scope level tokens rest primary is high ends all = absurd primary
   primary_again (Member pos operator whole x) scope level tokens rest primary is high ends all = absurd primary
-  primary_again (Postfix' pos operator operand) scope level tokens rest primary is high ends all = absurd primary
-  primary_again (Prefix' pos operator operand) scope level tokens rest primary is high ends all = absurd primary
-  primary_again (Measure' pos operator type) scope level tokens rest primary is high ends all = absurd primary
+  primary_again (PostfixOp pos operator operand) scope level tokens rest primary is high ends all = absurd primary
+  primary_again (PrefixOp pos operator operand) scope level tokens rest primary is high ends all = absurd primary
+  primary_again (MeasureOp pos operator type) scope level tokens rest primary is high ends all = absurd primary
   primary_again (Cast pos type operand) scope level tokens rest primary is high ends all = absurd primary
-  primary_again (Infix' pos operator left right) scope level tokens rest primary is high ends all = absurd primary
+  primary_again (InfixOp pos operator left right) scope level tokens rest primary is high ends all = absurd primary
   primary_again (Cond pos test then else) scope level tokens rest primary is high ends all = absurd primary
 
   pub postfix_full : (scope : Scope) (level : ℕ) (e : Expr) (tokens rest : List Token) → IsExpr e scope postfix_level → height e ≤ suc k → EndsExpr unary rest → Takes tokens (spell e) rest → unary_at k low scope level tokens ≡ Found e rest

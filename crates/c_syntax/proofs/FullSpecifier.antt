@@ -3,7 +3,7 @@ use Rattle.std.proofs.Common.{◌≡◌, ◌⊎◌, inl, inr, ◌≤◌, ◌<◌
 use Rattle.critical_table.specs.declared.pos.Pos.{Pos}
 use Rattle.c_lexer.specs.declared.punct.Punct.TheVariants as p
 use Rattle.c_lexer.specs.declared.token.Token.{Token}
-use Rattle.c_lexer.specs.declared.token.Body.TheVariants as body
+use Rattle.c_lexer.specs.declared.token.Body.TheVariants as lexeme
 use Rattle.c_lexer.specs.declared.word.Word.TheVariants as w
 use Rattle.c_syntax.specs.declared.operator.Infix.TheVariants as between
 use Rattle.c_syntax.specs.declared.specifier.CompoundWord.{CompoundWord}
@@ -12,17 +12,17 @@ use Rattle.c_syntax.specs.declared.specifier.Tag.{Tag}
 use Rattle.c_syntax.specs.Height.{members_height, enumerator_height, enumerators_height}
 use Rattle.c_syntax.specs.Levels.{conditional}
 use Rattle.c_syntax.specs.Operators.{compound_word}
-use Rattle.c_syntax.specs.Reader.{Found, give, seen, place, tail}
-use Rattle.c_syntax.specs.ReadExpr.{Readers}
+use Rattle.c_syntax.specs.Parser.{Found, pure, next_body, place, tail}
+use Rattle.c_syntax.specs.ReadExpr.{Parsers}
 use Rattle.c_syntax.specs.ReadToken.{is_mark, name_of, begins_type}
 use Rattle.c_syntax.specs.ReadSpecifier.{more_members, compound_body, compound_by, compound_tag, compound_on, compound, value_by, enumerator_on, enumerator_by, enumerator, listed_enumerators, enum_body, enum_by, enum_tag, enum_on, enumeration, specifier_by, specifier_at}
 use Rattle.c_syntax.specs.Scopes.{Scope, member_adds, enumerator_adds}
 use Rattle.c_syntax.specs.Spelling.{spell, spell_tag, spell_specifier, spell_member, spell_members, spell_enumerator, spelled_enumerators}
 use Rattle.c_syntax.specs.Tokens.{mark, name_at, word_at, commas, comma_if}
-use Rattle.c_syntax.specs.Tree.{Without, With, Storage', Qualifier', Inline, BasicWord', CompoundTag, Compound, EnumTag, Enum, TypedefName, MemberDeclaration, Declares, Members, NoMember, MoreMembers, Enumerator, Enumerates, Enumerators, NoEnumerator, MoreEnumerators}
+use Rattle.c_syntax.specs.Tree.{Without, With, StorageClass, TypeQualifier, Inline, BasicType, CompoundTag, Compound, EnumTag, Enum, TypedefName, MemberDeclaration, Declares, Members, NoMember, MoreMembers, Enumerator, Enumerates, Enumerators, NoEnumerator, MoreEnumerators}
 use Rattle.c_syntax.specs.View.{members, enumerators}
 use Rattle.c_syntax.specs.WellFormed.{HasMember, HasEnumerator, AreMembers, IsEnumerator, AreEnumerators}
-use Rattle.c_syntax.proofs.Again.{front, then_read, look_at, read_at, deeper_again, exactly_again, Each, many_again, Behind, listed_again, behind_commas, behind_seen}
+use Rattle.c_syntax.proofs.Again.{front, then_read, peek_at, read_at, deeper_again, expect_again, Each, many_again, Behind, listed_again, behind_commas, behind_seen}
 use Rattle.c_syntax.proofs.Ends.{ends_closed, ends_infix}
 use Rattle.c_syntax.proofs.FirstLaws.{first_member}
 use Rattle.c_syntax.proofs.FirstTokens.{first_seen, first_shorter}
@@ -57,19 +57,19 @@ enums_again (MoreEnumerators first rest) = ap (MoreEnumerators first) (enums_aga
 
 -- a comma or the closing brace
 abbrev EndsValue : List Token → Type 0
-EndsValue rest = (seen rest ≡ Some (body.Mark p.Comma)) ⊎ (seen rest ≡ Some (body.Mark p.CloseBrace))
+EndsValue rest = (next_body rest ≡ Some (lexeme.Mark p.Comma)) ⊎ (next_body rest ≡ Some (lexeme.Mark p.CloseBrace))
 
 value_ends : (rest : List Token) → EndsValue rest → EndsExpr conditional rest
 value_ends rest (inl e) = ends_infix conditional rest between.Comma e (omega arith)
 value_ends rest (inr e) = ends_closed conditional rest p.CloseBrace e (λ k low left. refl) refl refl
 
-no_value : (rest : List Token) → EndsValue rest → is_mark p.Assign (seen rest) ≡ false
+no_value : (rest : List Token) → EndsValue rest → is_mark p.Assign (next_body rest) ≡ false
 no_value rest (inl e) = ap (is_mark p.Assign) e
 no_value rest (inr e) = ap (is_mark p.Assign) e
 
-comma_ends : (comma : Bool) (tokens rest : List Token) → seen rest ≡ Some (body.Mark p.CloseBrace) → Takes tokens (comma_if comma) rest → EndsValue tokens
+comma_ends : (comma : Bool) (tokens rest : List Token) → next_body rest ≡ Some (lexeme.Mark p.CloseBrace) → Takes tokens (comma_if comma) rest → EndsValue tokens
 comma_ends true tokens rest close all = inl (front tokens rest (mark p.Comma ∷ []) all).0
-comma_ends false tokens rest close all = inr (ap seen all ∙ close)
+comma_ends false tokens rest close all = inr (ap next_body all ∙ close)
 
 value_behind : (parts : List _) (tokens rest : List Token) → EndsValue rest → Takes tokens (behind_commas parts) rest → EndsValue tokens
 value_behind parts tokens rest ends all = elim (behind_seen parts tokens rest all) [
@@ -77,12 +77,12 @@ value_behind parts tokens rest ends all = elim (behind_seen parts tokens rest al
   | inr e ↦ subst EndsValue (sym e) ends
 ]
 
-enumerator_front : (one : Enumerator) (tokens rest : List Token) → Takes tokens (spell_enumerator one) rest → is_mark p.CloseBrace (seen tokens) ≡ false
+enumerator_front : (one : Enumerator) (tokens rest : List Token) → Takes tokens (spell_enumerator one) rest → is_mark p.CloseBrace (next_body tokens) ≡ false
 enumerator_front (Enumerates pos x Without) tokens rest all = ap (is_mark p.CloseBrace) (front tokens rest (spell_enumerator (Enumerates pos x Without)) all).0
 enumerator_front (Enumerates pos x (With value)) tokens rest all = ap (is_mark p.CloseBrace) (front tokens rest (spell_enumerator (Enumerates pos x (With value))) all).0
 
-module _ (k : ℕ) (low : Readers) (full : AllFull k low) where
-  each_member : (all : Members) (scope : Scope) (tokens rest : List Token) → AreMembers all scope → members_height all ≤ k → seen rest ≡ Some (body.Mark p.CloseBrace) → Takes tokens (spell_members all) rest
+module _ (k : ℕ) (low : Parsers) (full : AllFull k low) where
+  each_member : (all : Members) (scope : Scope) (tokens rest : List Token) → AreMembers all scope → members_height all ≤ k → next_body rest ≡ Some (lexeme.Mark p.CloseBrace) → Takes tokens (spell_members all) rest
       → Each begins_type low.member (λ s one. s ++ member_adds one) (listed_members all) scope tokens rest
   each_member NoMember scope tokens rest are high close all = (all, ap (begins_type scope) close)
   each_member (MoreMembers first more) scope tokens rest are high close all =
@@ -105,19 +105,19 @@ module _ (k : ℕ) (low : Readers) (full : AllFull k low) where
       let g = front both.mid rest (mark p.CloseBrace ∷ []) both.two in
       then_read _ _ first one.mid _ (full.member scope first tokens one.mid are.0 (omega arith) one.one)
       (then_read _ _ (listed_members more) both.mid _ (many_again _ _ _ (listed_members more) (scope ++ member_adds first) one.mid both.mid (each_member more (scope ++ member_adds first) one.mid both.mid are.1 (omega arith) g.0 one.two))
-      (exactly_again (is_mark p.CloseBrace) _ both.mid _ _ refl g.0
+      (expect_again (is_mark p.CloseBrace) _ both.mid _ _ refl g.0
       (ap (λ more. Found (Compound pos word tag (MoreMembers first more)) (tail both.mid)) (members_again more) ∙ ap (λ ts. Found (Compound pos word tag (MoreMembers first more)) ts) g.2)))
 
-  compound_word_again : (scope : Scope) (pos : Pos) (word : CompoundWord) (tokens : List Token) → specifier_by k low scope pos (Some (body.Word (compound_word word))) tokens ≡ compound k low scope pos word (tail tokens)
+  compound_word_again : (scope : Scope) (pos : Pos) (word : CompoundWord) (tokens : List Token) → specifier_by k low scope pos (Some (lexeme.Word (compound_word word))) tokens ≡ compound k low scope pos word (tail tokens)
   compound_word_again scope pos compound_word_of.Struct tokens = refl
   compound_word_again scope pos compound_word_of.Union tokens = refl
 
-  tag_again : (scope : Scope) (pos : Pos) (word : CompoundWord) (tag : Tag) (tokens rest : List Token) → is_mark p.OpenBrace (seen rest) ≡ false → Takes tokens (name_at tag.pos tag.name ∷ []) rest → compound k low scope pos word tokens ≡ Found (CompoundTag pos word tag) rest
+  tag_again : (scope : Scope) (pos : Pos) (word : CompoundWord) (tag : Tag) (tokens rest : List Token) → is_mark p.OpenBrace (next_body rest) ≡ false → Takes tokens (name_at tag.pos tag.name ∷ []) rest → compound k low scope pos word tokens ≡ Found (CompoundTag pos word tag) rest
   unfolding compound compound_tag
   tag_again scope pos word tag tokens rest no_brace all =
       let f = front tokens rest (name_at tag.pos tag.name ∷ []) all in
       read_at (compound_on k low scope pos word) tokens tag.pos _ _ f.1 f.0
-      (ap (λ ts. compound_by k low scope pos word tag (is_mark p.OpenBrace (seen ts)) ts) f.2 ∙ ap (λ b. compound_by k low scope pos word tag b rest) no_brace)
+      (ap (λ ts. compound_by k low scope pos word tag (is_mark p.OpenBrace (next_body ts)) ts) f.2 ∙ ap (λ b. compound_by k low scope pos word tag b rest) no_brace)
 
   compound_again : (scope : Scope) (pos : Pos) (word : CompoundWord) (tag : Option Tag) (all : Members) (tokens rest : List Token) → HasMember all → AreMembers all scope → members_height all ≤ k
       → Takes tokens (spell_tag tag ++ (mark p.OpenBrace ∷ (spell_members all ++ mark p.CloseBrace ∷ []))) rest → compound k low scope pos word tokens ≡ Found (Compound pos word tag all) rest
@@ -125,7 +125,7 @@ module _ (k : ℕ) (low : Readers) (full : AllFull k low) where
   compound_again scope pos word None all tokens rest has are high takes =
       let f = front tokens rest (mark p.OpenBrace ∷ (spell_members all ++ mark p.CloseBrace ∷ [])) takes in
       let some : 0 < k = let h = members_high all has in omega arith in
-      look_at (compound_on k low scope pos word (place tokens)) tokens _ _ f.0 (deeper_again k _ tokens _ some (body_again scope pos word None all (tail tokens) rest has are high f.2))
+      peek_at (compound_on k low scope pos word (place tokens)) tokens _ _ f.0 (deeper_again k _ tokens _ some (body_again scope pos word None all (tail tokens) rest has are high f.2))
   compound_again scope pos word (Some tag) all tokens rest has are high takes =
       let braces = mark p.OpenBrace ∷ (spell_members all ++ mark p.CloseBrace ∷ []) in
       let f = front tokens rest (name_at tag.pos tag.name ∷ braces) takes in
@@ -142,7 +142,7 @@ module _ (k : ℕ) (low : Readers) (full : AllFull k low) where
   enumerator_again scope (Enumerates pos x Without) tokens rest is high ends all =
       let f = front tokens rest (spell_enumerator (Enumerates pos x Without)) all in
       read_at (λ pos o. enumerator_by k low scope pos (name_of o)) tokens pos _ _ f.1 f.0
-      (ap (λ ts. value_by k low scope pos x (is_mark p.Assign (seen ts)) ts) f.2 ∙ ap (λ b. value_by k low scope pos x b rest) (no_value rest ends))
+      (ap (λ ts. value_by k low scope pos x (is_mark p.Assign (next_body ts)) ts) f.2 ∙ ap (λ b. value_by k low scope pos x b rest) (no_value rest ends))
   enumerator_again scope (Enumerates pos x (With value)) tokens rest is high ends all =
       let f = front tokens rest (spell_enumerator (Enumerates pos x (With value))) all in
       let g = front (tail tokens) rest (mark p.Assign ∷ spell value) f.2 in
@@ -152,13 +152,13 @@ module _ (k : ℕ) (low : Readers) (full : AllFull k low) where
       (ap (λ o. value_by k low scope pos x (is_mark p.Assign o) (tail tokens)) g.0
       ∙ deeper_again k _ (tail tokens) _ some (then_read _ _ value rest _ reads refl))
 
-  behind_enumerators : (all : Enumerators) (comma : Bool) (scope : Scope) (tokens mid rest : List Token) → AreEnumerators all scope → enumerators_height all ≤ k → seen rest ≡ Some (body.Mark p.CloseBrace)
+  behind_enumerators : (all : Enumerators) (comma : Bool) (scope : Scope) (tokens mid rest : List Token) → AreEnumerators all scope → enumerators_height all ≤ k → next_body rest ≡ Some (lexeme.Mark p.CloseBrace)
       → Takes tokens (behind_commas (spelled_enumerators all)) mid → Takes mid (comma_if comma) rest
-      → Behind (is_mark p.Comma) (is_mark p.CloseBrace) (give tt) (enumerator k low) (λ s one. s ++ enumerator_adds one) (listed_enums all) comma scope tokens rest
+      → Behind (is_mark p.Comma) (is_mark p.CloseBrace) (pure tt) (enumerator k low) (λ s one. s ++ enumerator_adds one) (listed_enums all) comma scope tokens rest
   behind_enumerators NoEnumerator false scope tokens mid rest are high close all end = (all ∙ end, ap (is_mark p.Comma) close)
   behind_enumerators NoEnumerator true scope tokens mid rest are high close all end =
       let f = front tokens rest (mark p.Comma ∷ []) (subst (λ ts. Takes ts (mark p.Comma ∷ []) rest) (sym all) end) in
-      (ap (is_mark p.Comma) f.0, ap (is_mark p.CloseBrace) (ap seen f.2 ∙ close), ap (λ ts. Found tt ts) f.2, f.3)
+      (ap (is_mark p.Comma) f.0, ap (is_mark p.CloseBrace) (ap next_body f.2 ∙ close), ap (λ ts. Found tt ts) f.2, f.3)
   behind_enumerators (MoreEnumerators first more) comma scope tokens mid rest are high close all end =
       let both = takes_parted tokens mid (mark p.Comma ∷ spell_enumerator first) (behind_commas (spelled_enumerators more)) all in
       let f = front tokens both.mid (mark p.Comma ∷ spell_enumerator first) both.one in
@@ -182,15 +182,15 @@ module _ (k : ℕ) (low : Readers) (full : AllFull k low) where
       let one = enumerator_again scope first tokens both.mid are.0 (omega arith) ends both.one in
       let behind = behind_enumerators more comma (scope ++ enumerator_adds first) both.mid mid end are.1 (omega arith) g.0 both.two ending in
       then_read _ _ _ end _ (listed_again _ _ _ _ _ first (listed_enums more) comma scope tokens both.mid end one behind)
-      (exactly_again (is_mark p.CloseBrace) _ end _ _ refl g.0
+      (expect_again (is_mark p.CloseBrace) _ end _ _ refl g.0
       (ap (λ more. Found (Enum pos tag (MoreEnumerators first more) comma) (tail end)) (enums_again more) ∙ ap (λ ts. Found (Enum pos tag (MoreEnumerators first more) comma) ts) g.2))
 
-  enum_tag_again : (scope : Scope) (pos : Pos) (tag : Tag) (tokens rest : List Token) → is_mark p.OpenBrace (seen rest) ≡ false → Takes tokens (name_at tag.pos tag.name ∷ []) rest → enumeration k low scope pos tokens ≡ Found (EnumTag pos tag) rest
+  enum_tag_again : (scope : Scope) (pos : Pos) (tag : Tag) (tokens rest : List Token) → is_mark p.OpenBrace (next_body rest) ≡ false → Takes tokens (name_at tag.pos tag.name ∷ []) rest → enumeration k low scope pos tokens ≡ Found (EnumTag pos tag) rest
   unfolding enumeration enum_tag
   enum_tag_again scope pos tag tokens rest no_brace all =
       let f = front tokens rest (name_at tag.pos tag.name ∷ []) all in
       read_at (enum_on k low scope pos) tokens tag.pos _ _ f.1 f.0
-      (ap (λ ts. enum_by k low scope pos tag (is_mark p.OpenBrace (seen ts)) ts) f.2 ∙ ap (λ b. enum_by k low scope pos tag b rest) no_brace)
+      (ap (λ ts. enum_by k low scope pos tag (is_mark p.OpenBrace (next_body ts)) ts) f.2 ∙ ap (λ b. enum_by k low scope pos tag b rest) no_brace)
 
   enumeration_again : (scope : Scope) (pos : Pos) (tag : Option Tag) (all : Enumerators) (comma : Bool) (tokens front_end mid end rest : List Token) → HasEnumerator all → AreEnumerators all scope → enumerators_height all ≤ k
       → Takes tokens (spell_tag tag) front_end → Takes front_end (mark p.OpenBrace ∷ commas (spelled_enumerators all)) mid → Takes mid (comma_if comma) end → Takes end (mark p.CloseBrace ∷ []) rest
@@ -198,7 +198,7 @@ module _ (k : ℕ) (low : Readers) (full : AllFull k low) where
   unfolding enumeration enum_tag
   enumeration_again scope pos None all comma tokens front_end mid end rest has are high start takes ending close =
       let f = front tokens mid (mark p.OpenBrace ∷ commas (spelled_enumerators all)) (subst (λ ts. Takes ts (mark p.OpenBrace ∷ commas (spelled_enumerators all)) mid) (sym start) takes) in
-      look_at (enum_on k low scope pos (place tokens)) tokens _ _ f.0 (enum_again scope pos None all comma (tail tokens) mid end rest has are high f.2 ending close)
+      peek_at (enum_on k low scope pos (place tokens)) tokens _ _ f.0 (enum_again scope pos None all comma (tail tokens) mid end rest has are high f.2 ending close)
   enumeration_again scope pos (Some tag) all comma tokens front_end mid end rest has are high start takes ending close =
       let f = front tokens front_end (name_at tag.pos tag.name ∷ []) start in
       let braces = mark p.OpenBrace ∷ commas (spelled_enumerators all) in
@@ -216,10 +216,10 @@ module _ (k : ℕ) (low : Readers) (full : AllFull k low) where
 
   pub specifier_full : StepFull (suc k) (specifier_at k low)
   unfolding specifier_at
-  specifier_full s (Storage' pos word) tokens rest is high no_brace all = storage_again (specifier_by k low s.scope) (words s.scope) pos word tokens rest all
-  specifier_full s (Qualifier' pos word) tokens rest is high no_brace all = qualifier_again (specifier_by k low s.scope) (words s.scope) pos word tokens rest all
+  specifier_full s (StorageClass pos word) tokens rest is high no_brace all = storage_again (specifier_by k low s.scope) (words s.scope) pos word tokens rest all
+  specifier_full s (TypeQualifier pos word) tokens rest is high no_brace all = qualifier_again (specifier_by k low s.scope) (words s.scope) pos word tokens rest all
   specifier_full s (Inline pos) tokens rest is high no_brace all = inline_again (specifier_by k low s.scope) (words s.scope) pos tokens rest all
-  specifier_full s (BasicWord' pos word) tokens rest is high no_brace all = basic_again (specifier_by k low s.scope) (words s.scope) pos word tokens rest all
+  specifier_full s (BasicType pos word) tokens rest is high no_brace all = basic_again (specifier_by k low s.scope) (words s.scope) pos word tokens rest all
   specifier_full s (CompoundTag pos word tag) tokens rest is high no_brace all =
       let f = front tokens rest (spell_specifier (CompoundTag pos word tag)) all in
       read_at (specifier_by k low s.scope) tokens pos _ _ f.1 f.0 (compound_word_again s.scope pos word tokens ∙ tag_again s.scope pos word tag (tail tokens) rest no_brace f.2)

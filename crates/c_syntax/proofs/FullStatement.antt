@@ -4,12 +4,12 @@ use Rattle.critical_table.specs.declared.pos.Pos.{Pos}
 use Rattle.c_lexer.specs.declared.punct.Punct.TheVariants as p
 use Rattle.c_lexer.specs.declared.token.Token.{Token}
 use Rattle.c_lexer.specs.declared.token.Body.{Body}
-use Rattle.c_lexer.specs.declared.token.Body.TheVariants as body
+use Rattle.c_lexer.specs.declared.token.Body.TheVariants as lexeme
 use Rattle.c_lexer.specs.declared.word.Word.TheVariants as w
 use Rattle.c_syntax.specs.Height.{height}
 use Rattle.c_syntax.specs.HeightUnit.{for_init_height, statement_height, block_item_height, switch_item_height}
 use Rattle.c_syntax.specs.Levels.{expression, conditional}
-use Rattle.c_syntax.specs.Reader.{Found, ◌>>=◌, give, seen, place, tail}
+use Rattle.c_syntax.specs.Parser.{Found, ◌>>=◌, pure, next_body, place, tail}
 use Rattle.c_syntax.specs.ReadBody.{begins_block_item, begins_statement, Statements, optional, else_by, if_on, switch_on, while_on, do_on, for_init_by, for_init, for_on, statement_by, statement_at, block_item_at, case_on, switch_item_at, statements}
 use Rattle.c_syntax.specs.ReadExpr.{begins_expr}
 use Rattle.c_syntax.specs.ReadToken.{is_mark, is_word, begins_type}
@@ -19,34 +19,34 @@ use Rattle.c_syntax.specs.Spelling.{spell}
 use Rattle.c_syntax.specs.SpellingUnit.{spell_declaration, spell_assert, spell_optional, spell_for_init, spell_controlling, spell_for_head, spell_statement, spell_block_item, spell_switch_item, spell_switch_items}
 use Rattle.c_syntax.specs.Tokens.{mark, word, word_at}
 use Rattle.c_syntax.specs.Tree.{Expr}
-use Rattle.c_syntax.specs.TreeUnit.{ForInit, WithDeclaration, WithExpression, Statement, Block, ExprStmt, If, IfElse, Switch, While, Do, For, Break, Continue, Return, BlockItem, Declared, Asserted, Done, SwitchItem, Case, Default, Within, SwitchItems}
+use Rattle.c_syntax.specs.TreeUnit.{ForInit, WithDeclaration, WithExpression, Statement, Block, ExprStmt, If, IfElse, Switch, While, Do, For, Break, Continue, Return, BlockItem, Declared, Asserted, Executes, SwitchItem, Case, Default, InBlock, SwitchItems}
 use Rattle.c_syntax.specs.WellFormed.{IsExpr}
 use Rattle.c_syntax.specs.WellFormedUnit.{IsForInit, IsStatement, IsBlockItem, IsSwitchItem}
-use Rattle.c_syntax.proofs.Again.{front, then_read, look_at, read_at, chosen_first, chosen_second, deeper_again, exactly_again}
+use Rattle.c_syntax.proofs.Again.{front, then_read, peek_at, read_at, chosen_first, chosen_second, deeper_again, expect_again}
 use Rattle.c_syntax.proofs.BodyTokens.{no_assert, no_case, no_default, statement_starts, block_item_begins}
 use Rattle.c_syntax.proofs.Ends.{ends_closed}
 use Rattle.c_syntax.proofs.FirstLaws.{first_declaration}
 use Rattle.c_syntax.proofs.FirstTokens.{first_seen, expr_begins}
 use Rattle.c_syntax.proofs.FullBlock.{MayFollow, MayFollowItem, MayFollowSwitch, FullStatements, semicolon, paren, optional_no_type, block_again, switch_again, optional_again, controlling_again}
 use Rattle.c_syntax.proofs.FullDeclaration.{declaration_full, lower_full, assert_full}
-use Rattle.c_syntax.proofs.FullDeclarator.{readers_full}
+use Rattle.c_syntax.proofs.FullDeclarator.{parsers_full}
 use Rattle.c_syntax.proofs.HeightLaws.{expr_high, statement_high}
 use Rattle.c_syntax.proofs.Takes.{Takes, takes_append, takes_parted}
 
 item_high : (one : BlockItem) → 1 ≤ block_item_height one
 item_high (Declared one) = omega arith
 item_high (Asserted one) = omega arith
-item_high (Done one) = statement_high one
+item_high (Executes one) = statement_high one
 
 switch_high : (one : SwitchItem) → 1 ≤ switch_item_height one
 switch_high (Case pos value) = omega arith
 switch_high (Default pos) = omega arith
-switch_high (Within one) = item_high one
+switch_high (InBlock one) = item_high one
 
 module _ (k : ℕ) (low : Statements) (full : FullStatements k low) where
   -- ---- selection and iteration
 
-  if_again : (pos : Pos) (test : Expr) (then : Statement) (scope : Scope) (tokens mid rest : List Token) → IsStatement (If pos test then) scope → statement_height (If pos test then) ≤ suc k → is_word w.Else (seen rest) ≡ false
+  if_again : (pos : Pos) (test : Expr) (then : Statement) (scope : Scope) (tokens mid rest : List Token) → IsStatement (If pos test then) scope → statement_height (If pos test then) ≤ suc k → is_word w.Else (next_body rest) ≡ false
       → Takes tokens (spell_controlling test) mid → Takes mid (spell_statement then) rest → if_on k low scope pos tokens ≡ Found (If pos test then) rest
   unfolding if_on
   if_again pos test then scope tokens mid rest is high none all more =
@@ -71,26 +71,26 @@ module _ (k : ℕ) (low : Statements) (full : FullStatements k low) where
   switch_on_again pos test items scope tokens mid rest is high all more =
       let f = front mid rest (mark p.OpenBrace ∷ spell_switch_items items ++ mark p.CloseBrace ∷ []) more in
       then_read _ _ test mid _ (controlling_again k low full test scope tokens mid is.0 (omega arith) all)
-      (exactly_again (is_mark p.OpenBrace) _ mid _ _ refl f.0
+      (expect_again (is_mark p.OpenBrace) _ mid _ _ refl f.0
       (then_read _ _ items rest _ (switch_again k low full items (scope ++ expr_adds test) (tail mid) rest is.1 (omega arith) f.2) refl))
 
-  while_again : (pos : Pos) (test : Expr) (turn : Statement) (scope : Scope) (tokens mid rest : List Token) → IsStatement (While pos test turn) scope → statement_height (While pos test turn) ≤ suc k → MayFollow turn rest
-      → Takes tokens (spell_controlling test) mid → Takes mid (spell_statement turn) rest → while_on k low scope pos tokens ≡ Found (While pos test turn) rest
+  while_again : (pos : Pos) (test : Expr) (body : Statement) (scope : Scope) (tokens mid rest : List Token) → IsStatement (While pos test body) scope → statement_height (While pos test body) ≤ suc k → MayFollow body rest
+      → Takes tokens (spell_controlling test) mid → Takes mid (spell_statement body) rest → while_on k low scope pos tokens ≡ Found (While pos test body) rest
   unfolding while_on
-  while_again pos test turn scope tokens mid rest is high may all more =
+  while_again pos test body scope tokens mid rest is high may all more =
       then_read _ _ test mid _ (controlling_again k low full test scope tokens mid is.0 (omega arith) all)
-      (then_read _ _ turn rest _ (full.statement (scope ++ expr_adds test) turn mid rest is.1 (omega arith) may more) refl)
+      (then_read _ _ body rest _ (full.statement (scope ++ expr_adds test) body mid rest is.1 (omega arith) may more) refl)
 
-  do_again : (pos : Pos) (turn : Statement) (test : Expr) (scope : Scope) (tokens mid end rest : List Token) → IsStatement (Do pos turn test) scope → statement_height (Do pos turn test) ≤ suc k
-      → Takes tokens (spell_statement turn) mid → Takes mid (word w.While ∷ spell_controlling test) end → Takes end (mark p.Semicolon ∷ []) rest → do_on k low scope pos tokens ≡ Found (Do pos turn test) rest
+  do_again : (pos : Pos) (body : Statement) (test : Expr) (scope : Scope) (tokens mid end rest : List Token) → IsStatement (Do pos body test) scope → statement_height (Do pos body test) ≤ suc k
+      → Takes tokens (spell_statement body) mid → Takes mid (word w.While ∷ spell_controlling test) end → Takes end (mark p.Semicolon ∷ []) rest → do_on k low scope pos tokens ≡ Found (Do pos body test) rest
   unfolding do_on
-  do_again pos turn test scope tokens mid end rest is high all more close =
+  do_again pos body test scope tokens mid end rest is high all more close =
       let f = front mid end (word w.While ∷ spell_controlling test) more in
       let g = front end rest (mark p.Semicolon ∷ []) close in
-      then_read _ _ turn mid _ (full.statement scope turn tokens mid is.0 (omega arith) (inr (ap (is_word w.Else) f.0)) all)
-      (exactly_again (is_word w.While) _ mid _ _ refl f.0
+      then_read _ _ body mid _ (full.statement scope body tokens mid is.0 (omega arith) (inr (ap (is_word w.Else) f.0)) all)
+      (expect_again (is_word w.While) _ mid _ _ refl f.0
       (then_read _ _ test end _ (controlling_again k low full test scope (tail mid) end is.1 (omega arith) f.2)
-      (exactly_again (is_mark p.Semicolon) _ end _ _ refl g.0 (ap (λ ts. Found (Do pos turn test) ts) g.2))))
+      (expect_again (is_mark p.Semicolon) _ end _ _ refl g.0 (ap (λ ts. Found (Do pos body test) ts) g.2))))
 
   for_init_again : (init : ForInit) (scope : Scope) (tokens rest : List Token) → IsForInit init scope → for_init_height init ≤ k → Takes tokens (spell_for_init init) rest → for_init k low scope tokens ≡ Found init rest
   unfolding for_init
@@ -103,10 +103,10 @@ module _ (k : ℕ) (low : Statements) (full : FullStatements k low) where
       ap (λ b. for_init_by k low scope b tokens) (optional_no_type e scope tokens x.mid is g.0 x.one)
       ∙ then_read _ _ e (tail x.mid) _ (optional_again k low full p.Semicolon semicolon e scope tokens x.mid is high g.0 x.one) (ap (λ ts. Found (WithExpression e) ts) g.2)
 
-  for_again : (pos : Pos) (init : ForInit) (test step : Option Expr) (turn : Statement) (scope : Scope) (tokens mid rest : List Token) → IsStatement (For pos init test step turn) scope → statement_height (For pos init test step turn) ≤ suc k → MayFollow turn rest
-      → Takes tokens (mark p.OpenParen ∷ spell_for_init init ++ spell_optional test ++ mark p.Semicolon ∷ spell_optional step ++ mark p.CloseParen ∷ []) mid → Takes mid (spell_statement turn) rest → for_on k low scope pos tokens ≡ Found (For pos init test step turn) rest
+  for_again : (pos : Pos) (init : ForInit) (test step : Option Expr) (body : Statement) (scope : Scope) (tokens mid rest : List Token) → IsStatement (For pos init test step body) scope → statement_height (For pos init test step body) ≤ suc k → MayFollow body rest
+      → Takes tokens (mark p.OpenParen ∷ spell_for_init init ++ spell_optional test ++ mark p.Semicolon ∷ spell_optional step ++ mark p.CloseParen ∷ []) mid → Takes mid (spell_statement body) rest → for_on k low scope pos tokens ≡ Found (For pos init test step body) rest
   unfolding for_on
-  for_again pos init test step turn scope tokens mid rest is high may all more =
+  for_again pos init test step body scope tokens mid rest is high may all more =
       let begun = mark p.OpenParen ∷ spell_for_init init in
       let stepped = mark p.Semicolon ∷ spell_optional step in
       let close = takes_parted tokens mid (begun ++ spell_optional test ++ stepped) (mark p.CloseParen ∷ []) all in
@@ -116,41 +116,41 @@ module _ (k : ℕ) (low : Statements) (full : FullStatements k low) where
       let g = front third.mid close.mid stepped third.two in
       let h = front close.mid mid (mark p.CloseParen ∷ []) close.two in
       let tested = scope ++ for_init_adds init in
-      exactly_again (is_mark p.OpenParen) _ tokens _ _ refl f.0
+      expect_again (is_mark p.OpenParen) _ tokens _ _ refl f.0
       (then_read _ _ init second.mid _ (for_init_again init scope (tail tokens) second.mid is.0 (omega arith) f.2)
       (then_read _ _ test (tail third.mid) _ (optional_again k low full p.Semicolon semicolon test tested second.mid third.mid is.1 (omega arith) g.0 second.two)
       (then_read _ _ step (tail close.mid) _ (optional_again k low full p.CloseParen paren step (tested ++ optional_adds test) (tail third.mid) close.mid is.2 (omega arith) h.0 g.2)
-      (then_read _ _ turn rest _ (full.statement (tested ++ optional_adds test ++ optional_adds step) turn (tail close.mid) rest is.3 (omega arith) may (subst (λ ts. Takes ts (spell_statement turn) rest) (sym h.2) more)) refl))))
+      (then_read _ _ body rest _ (full.statement (tested ++ optional_adds test ++ optional_adds step) body (tail close.mid) rest is.3 (omega arith) may (subst (λ ts. Takes ts (spell_statement body) rest) (sym h.2) more)) refl))))
 
   -- ---- statements
 
-  evaluated : (scope at : Scope) (pos : Pos) (o : Option Body) (tokens : List Token) → begins_expr at o ≡ true
-      → statement_by k low scope pos o tokens ≡ (optional k low (is_mark p.Semicolon) scope >>= λ e. give (ExprStmt e)) tokens
-  evaluated scope at pos (Some (body.Mark p.OpenBrace)) tokens begins = absurd (cc)
-  evaluated scope at pos (Some (body.Word w.If)) tokens begins = absurd (cc)
-  evaluated scope at pos (Some (body.Word w.Switch)) tokens begins = absurd (cc)
-  evaluated scope at pos (Some (body.Word w.While)) tokens begins = absurd (cc)
-  evaluated scope at pos (Some (body.Word w.Do)) tokens begins = absurd (cc)
-  evaluated scope at pos (Some (body.Word w.For)) tokens begins = absurd (cc)
-  evaluated scope at pos (Some (body.Word w.Break)) tokens begins = absurd (cc)
-  evaluated scope at pos (Some (body.Word w.Continue)) tokens begins = absurd (cc)
-  evaluated scope at pos (Some (body.Word w.Return)) tokens begins = absurd (cc)
-  evaluated scope at pos o tokens begins = refl
+  expression_statement : (scope at : Scope) (pos : Pos) (o : Option Body) (tokens : List Token) → begins_expr at o ≡ true
+      → statement_by k low scope pos o tokens ≡ (optional k low (is_mark p.Semicolon) scope >>= λ e. pure (ExprStmt e)) tokens
+  expression_statement scope at pos (Some (lexeme.Mark p.OpenBrace)) tokens begins = absurd (cc)
+  expression_statement scope at pos (Some (lexeme.Word w.If)) tokens begins = absurd (cc)
+  expression_statement scope at pos (Some (lexeme.Word w.Switch)) tokens begins = absurd (cc)
+  expression_statement scope at pos (Some (lexeme.Word w.While)) tokens begins = absurd (cc)
+  expression_statement scope at pos (Some (lexeme.Word w.Do)) tokens begins = absurd (cc)
+  expression_statement scope at pos (Some (lexeme.Word w.For)) tokens begins = absurd (cc)
+  expression_statement scope at pos (Some (lexeme.Word w.Break)) tokens begins = absurd (cc)
+  expression_statement scope at pos (Some (lexeme.Word w.Continue)) tokens begins = absurd (cc)
+  expression_statement scope at pos (Some (lexeme.Word w.Return)) tokens begins = absurd (cc)
+  expression_statement scope at pos o tokens begins = refl
 
   statement_full : (scope : Scope) (one : Statement) (tokens rest : List Token) → IsStatement one scope → statement_height one ≤ suc k → MayFollow one rest → Takes tokens (spell_statement one) rest
       → statement_at k low scope tokens ≡ Found one rest
   unfolding statement_at
   statement_full scope (Block items) tokens rest is high may all =
       let f = front tokens rest (spell_statement (Block items)) all in
-      look_at (statement_by k low scope (place tokens)) tokens _ _ f.0 (then_read _ _ items rest _ (block_again k low full items scope (tail tokens) rest is (omega arith) f.2) refl)
+      peek_at (statement_by k low scope (place tokens)) tokens _ _ f.0 (then_read _ _ items rest _ (block_again k low full items scope (tail tokens) rest is (omega arith) f.2) refl)
   statement_full scope (ExprStmt None) tokens rest is high may all =
       let f = front tokens rest (mark p.Semicolon ∷ []) all in
-      look_at (statement_by k low scope (place tokens)) tokens _ _ f.0
+      peek_at (statement_by k low scope (place tokens)) tokens _ _ f.0
       (then_read _ _ None (tail tokens) _ (optional_again k low full p.Semicolon semicolon None scope tokens tokens tt (omega arith) f.0 refl) (ap (λ ts. Found (ExprStmt None) ts) f.2))
   statement_full scope (ExprStmt (Some e)) tokens rest is high may all =
       let x = takes_parted tokens rest (spell e) (mark p.Semicolon ∷ []) all in
       let g = front x.mid rest (mark p.Semicolon ∷ []) x.two in
-      evaluated scope scope (place tokens) (seen tokens) tokens (expr_begins e scope expression tokens x.mid is x.one)
+      expression_statement scope scope (place tokens) (next_body tokens) tokens (expr_begins e scope expression tokens x.mid is x.one)
       ∙ then_read _ _ (Some e) (tail x.mid) _ (optional_again k low full p.Semicolon semicolon (Some e) scope tokens x.mid is (omega arith) g.0 x.one) (ap (λ ts. Found (ExprStmt (Some e)) ts) g.2)
   statement_full scope (If pos test then) tokens rest is high (inl closed) all = absurd closed
   statement_full scope (If pos test then) tokens rest is high (inr none) all =
@@ -173,32 +173,32 @@ module _ (k : ℕ) (low : Statements) (full : FullStatements k low) where
       let some : 0 < k = let h = expr_high test in omega arith in
       let block = takes_append x.mid y.mid rest behind (mark p.CloseBrace ∷ []) x.two y.two in
       read_at (statement_by k low scope) tokens pos _ _ f.1 f.0 (deeper_again k _ tokens _ some (switch_on_again pos test items scope (tail tokens) x.mid rest is high f.2 block))
-  statement_full scope (While pos test turn) tokens rest is high may all =
-      let x = takes_parted tokens rest (word_at pos w.While ∷ spell_controlling test) (spell_statement turn) all in
+  statement_full scope (While pos test body) tokens rest is high may all =
+      let x = takes_parted tokens rest (word_at pos w.While ∷ spell_controlling test) (spell_statement body) all in
       let f = front tokens x.mid (word_at pos w.While ∷ spell_controlling test) x.one in
       let some : 0 < k = let h = expr_high test in omega arith in
-      read_at (statement_by k low scope) tokens pos _ _ f.1 f.0 (deeper_again k _ tokens _ some (while_again pos test turn scope (tail tokens) x.mid rest is high may f.2 x.two))
-  statement_full scope (Do pos turn test) tokens rest is high may all =
-      let body_of = word_at pos w.Do ∷ spell_statement turn in
+      read_at (statement_by k low scope) tokens pos _ _ f.1 f.0 (deeper_again k _ tokens _ some (while_again pos test body scope (tail tokens) x.mid rest is high may f.2 x.two))
+  statement_full scope (Do pos body test) tokens rest is high may all =
+      let body_of = word_at pos w.Do ∷ spell_statement body in
       let behind = word w.While ∷ spell_controlling test in
       let y = takes_parted tokens rest (body_of ++ behind) (mark p.Semicolon ∷ []) all in
       let x = takes_parted tokens y.mid body_of behind y.one in
       let f = front tokens x.mid body_of x.one in
       let some : 0 < k = let h = expr_high test in omega arith in
-      read_at (statement_by k low scope) tokens pos _ _ f.1 f.0 (deeper_again k _ tokens _ some (do_again pos turn test scope (tail tokens) x.mid y.mid rest is high f.2 x.two y.two))
-  statement_full scope (For pos init test step turn) tokens rest is high may all =
-      let x = takes_parted tokens rest (spell_for_head pos init test step) (spell_statement turn) all in
+      read_at (statement_by k low scope) tokens pos _ _ f.1 f.0 (deeper_again k _ tokens _ some (do_again pos body test scope (tail tokens) x.mid y.mid rest is high f.2 x.two y.two))
+  statement_full scope (For pos init test step body) tokens rest is high may all =
+      let x = takes_parted tokens rest (spell_for_head pos init test step) (spell_statement body) all in
       let f = front tokens x.mid (spell_for_head pos init test step) x.one in
-      let some : 0 < k = let h = statement_high turn in omega arith in
-      read_at (statement_by k low scope) tokens pos _ _ f.1 f.0 (deeper_again k _ tokens _ some (for_again pos init test step turn scope (tail tokens) x.mid rest is high may f.2 x.two))
+      let some : 0 < k = let h = statement_high body in omega arith in
+      read_at (statement_by k low scope) tokens pos _ _ f.1 f.0 (deeper_again k _ tokens _ some (for_again pos init test step body scope (tail tokens) x.mid rest is high may f.2 x.two))
   statement_full scope (Break pos) tokens rest is high may all =
       let f = front tokens rest (spell_statement (Break pos)) all in
       let g = front (tail tokens) rest (mark p.Semicolon ∷ []) f.2 in
-      read_at (statement_by k low scope) tokens pos _ _ f.1 f.0 (exactly_again (is_mark p.Semicolon) _ (tail tokens) _ _ refl g.0 (ap (λ ts. Found (Break pos) ts) g.2))
+      read_at (statement_by k low scope) tokens pos _ _ f.1 f.0 (expect_again (is_mark p.Semicolon) _ (tail tokens) _ _ refl g.0 (ap (λ ts. Found (Break pos) ts) g.2))
   statement_full scope (Continue pos) tokens rest is high may all =
       let f = front tokens rest (spell_statement (Continue pos)) all in
       let g = front (tail tokens) rest (mark p.Semicolon ∷ []) f.2 in
-      read_at (statement_by k low scope) tokens pos _ _ f.1 f.0 (exactly_again (is_mark p.Semicolon) _ (tail tokens) _ _ refl g.0 (ap (λ ts. Found (Continue pos) ts) g.2))
+      read_at (statement_by k low scope) tokens pos _ _ f.1 f.0 (expect_again (is_mark p.Semicolon) _ (tail tokens) _ _ refl g.0 (ap (λ ts. Found (Continue pos) ts) g.2))
   statement_full scope (Return pos value) tokens rest is high may all =
       let x = takes_parted tokens rest (word_at pos w.Return ∷ spell_optional value) (mark p.Semicolon ∷ []) all in
       let f = front tokens x.mid (word_at pos w.Return ∷ spell_optional value) x.one in
@@ -213,15 +213,15 @@ module _ (k : ℕ) (low : Statements) (full : FullStatements k low) where
   unfolding block_item_at
   block_item_full scope (Declared one) tokens rest is high may all =
       let begins = first_seen true scope tokens rest (spell_declaration one) (first_declaration one scope is) all in
-      chosen_first (begins_type scope (seen tokens)) _ _ tokens _ begins (then_read _ _ one rest _ (declaration_full k scope one tokens rest is high all) refl)
+      chosen_first (begins_type scope (next_body tokens)) _ _ tokens _ begins (then_read _ _ one rest _ (declaration_full k scope one tokens rest is high all) refl)
   block_item_full scope (Asserted one) tokens rest is high may all =
       let f = front tokens rest (spell_assert one) all in
-      chosen_second (begins_type scope (seen tokens)) _ _ tokens _ (ap (begins_type scope) f.0)
-      (chosen_first (is_word w.StaticAssert (seen tokens)) _ _ tokens _ (ap (is_word w.StaticAssert) f.0) (then_read _ _ one rest _ (assert_full k scope one tokens rest is high all) refl))
-  block_item_full scope (Done one) tokens rest is high may all =
+      chosen_second (begins_type scope (next_body tokens)) _ _ tokens _ (ap (begins_type scope) f.0)
+      (chosen_first (is_word w.StaticAssert (next_body tokens)) _ _ tokens _ (ap (is_word w.StaticAssert) f.0) (then_read _ _ one rest _ (assert_full k scope one tokens rest is high all) refl))
+  block_item_full scope (Executes one) tokens rest is high may all =
       let starts = statement_starts one scope tokens rest is all in
-      chosen_second (begins_type scope (seen tokens)) _ _ tokens _ starts.1
-      (chosen_second (is_word w.StaticAssert (seen tokens)) _ _ tokens _ (no_assert (begins_statement scope) (seen tokens) refl starts.0)
+      chosen_second (begins_type scope (next_body tokens)) _ _ tokens _ starts.1
+      (chosen_second (is_word w.StaticAssert (next_body tokens)) _ _ tokens _ (no_assert (begins_statement scope) (next_body tokens) refl starts.0)
       (then_read _ _ one rest _ (statement_full scope one tokens rest is high may all) refl))
 
   case_again : (pos : Pos) (value : Expr) (scope : Scope) (tokens rest : List Token) → IsExpr value scope conditional → height value ≤ k → Takes tokens (spell value ++ mark p.Colon ∷ []) rest → case_on k low scope pos tokens ≡ Found (Case pos value) rest
@@ -229,8 +229,8 @@ module _ (k : ℕ) (low : Statements) (full : FullStatements k low) where
   case_again pos value scope tokens rest is high all =
       let x = takes_parted tokens rest (spell value) (mark p.Colon ∷ []) all in
       let g = front x.mid rest (mark p.Colon ∷ []) x.two in
-      then_read _ _ value x.mid _ ((readers_full k).expr scope conditional value tokens x.mid (omega arith) is high (ends_closed conditional x.mid p.Colon g.0 (λ k low left. refl) refl refl) x.one)
-      (exactly_again (is_mark p.Colon) _ x.mid _ _ refl g.0 (ap (λ ts. Found (Case pos value) ts) g.2))
+      then_read _ _ value x.mid _ ((parsers_full k).expr scope conditional value tokens x.mid (omega arith) is high (ends_closed conditional x.mid p.Colon g.0 (λ k low left. refl) refl refl) x.one)
+      (expect_again (is_mark p.Colon) _ x.mid _ _ refl g.0 (ap (λ ts. Found (Case pos value) ts) g.2))
 
   switch_item_full : (scope : Scope) (one : SwitchItem) (tokens rest : List Token) → IsSwitchItem one scope → switch_item_height one ≤ suc k → MayFollowSwitch one rest → Takes tokens (spell_switch_item one) rest
       → switch_item_at k low scope tokens ≡ Found one rest
@@ -238,18 +238,18 @@ module _ (k : ℕ) (low : Statements) (full : FullStatements k low) where
   switch_item_full scope (Case pos value) tokens rest is high may all =
       let f = front tokens rest (spell_switch_item (Case pos value)) all in
       let some : 0 < k = let h = expr_high value in omega arith in
-      chosen_first (is_word w.Case (seen tokens)) _ _ tokens _ (ap (is_word w.Case) f.0)
+      chosen_first (is_word w.Case (next_body tokens)) _ _ tokens _ (ap (is_word w.Case) f.0)
       (deeper_again k _ tokens _ some (case_again (place tokens) value scope (tail tokens) rest is (omega arith) f.2 ∙ ap (λ pos. Found (Case pos value) rest) f.1))
   switch_item_full scope (Default pos) tokens rest is high may all =
       let f = front tokens rest (spell_switch_item (Default pos)) all in
       let g = front (tail tokens) rest (mark p.Colon ∷ []) f.2 in
-      chosen_second (is_word w.Case (seen tokens)) _ _ tokens _ (ap (is_word w.Case) f.0)
-      (chosen_first (is_word w.Default (seen tokens)) _ _ tokens _ (ap (is_word w.Default) f.0)
-      (exactly_again (is_mark p.Colon) _ (tail tokens) _ _ refl g.0 (ap (λ pos. Found (Default pos) (tail (tail tokens))) f.1 ∙ ap (λ ts. Found (Default pos) ts) g.2)))
-  switch_item_full scope (Within one) tokens rest is high may all =
+      chosen_second (is_word w.Case (next_body tokens)) _ _ tokens _ (ap (is_word w.Case) f.0)
+      (chosen_first (is_word w.Default (next_body tokens)) _ _ tokens _ (ap (is_word w.Default) f.0)
+      (expect_again (is_mark p.Colon) _ (tail tokens) _ _ refl g.0 (ap (λ pos. Found (Default pos) (tail (tail tokens))) f.1 ∙ ap (λ ts. Found (Default pos) ts) g.2)))
+  switch_item_full scope (InBlock one) tokens rest is high may all =
       let begins = block_item_begins one scope tokens rest is all in
-      chosen_second (is_word w.Case (seen tokens)) _ _ tokens _ (no_case (begins_block_item scope) (seen tokens) refl begins)
-      (chosen_second (is_word w.Default (seen tokens)) _ _ tokens _ (no_default (begins_block_item scope) (seen tokens) refl begins)
+      chosen_second (is_word w.Case (next_body tokens)) _ _ tokens _ (no_case (begins_block_item scope) (next_body tokens) refl begins)
+      (chosen_second (is_word w.Default (next_body tokens)) _ _ tokens _ (no_default (begins_block_item scope) (next_body tokens) refl begins)
       (then_read _ _ one rest _ (block_item_full scope one tokens rest is high may all) refl))
 
 pub statements_full : (k : ℕ) → FullStatements k (statements k)

@@ -1,6 +1,6 @@
 -- Each node has a height of at least 1.
 use Rattle.std.proofs.Common.{◌≡◌, ◌≤◌, ℕ, suc, List, [], ◌∷◌, refl, arith}
-use Rattle.c_syntax.specs.Tree.{Expr, Const, Id, Text, Paren, Index, Call, Member, Postfix', Prefix', Measure', Cast, Infix', Cond, TypeName, Type', Declarator, Omitted, Name, DParen, PointerTo, ArrayOf, FunctionOf}
+use Rattle.c_syntax.specs.Tree.{Expr, Const, Id, Text, Paren, Index, Call, Member, PostfixOp, PrefixOp, MeasureOp, Cast, InfixOp, Cond, TypeName, NamedType, Declarator, Omitted, Name, DParen, PointerTo, ArrayOf, FunctionOf}
 use Rattle.c_syntax.specs.TreeUnit.{Initializer, Single, Braces, Statement, Block, ExprStmt, If, IfElse, Switch, While, Do, For, Break, Continue, Return, External, Defines, Declaring, Asserting, Tree}
 use Rattle.c_syntax.specs.Height.{height, type_name_height, declarator_height}
 use Rattle.c_syntax.specs.HeightUnit.{initializer_height, statement_height, external_height, externals_height, tree_height}
@@ -18,15 +18,15 @@ expr_high (Paren inner) = one_more _
 expr_high (Index pos array index) = one_more _
 expr_high (Call pos function arguments) = one_more _
 expr_high (Member pos access whole x) = one_more _
-expr_high (Postfix' pos operator operand) = one_more _
-expr_high (Prefix' pos operator operand) = one_more _
-expr_high (Measure' pos operator type) = one_more _
+expr_high (PostfixOp pos operator operand) = one_more _
+expr_high (PrefixOp pos operator operand) = one_more _
+expr_high (MeasureOp pos operator type) = one_more _
 expr_high (Cast pos type operand) = one_more _
-expr_high (Infix' pos operator left right) = one_more _
+expr_high (InfixOp pos operator left right) = one_more _
 expr_high (Cond pos test then else) = one_more _
 
 pub type_name_high : (type : TypeName) → 1 ≤ type_name_height type
-type_name_high (Type' specifiers declarator) = one_more _
+type_name_high (NamedType specifiers declarator) = one_more _
 
 pub declarator_high : (declarator : Declarator) → HasToken declarator → 1 ≤ declarator_height declarator
 declarator_high Omitted has = absurd has
@@ -46,9 +46,9 @@ statement_high (ExprStmt expr) = one_more _
 statement_high (If pos test then) = one_more _
 statement_high (IfElse pos test then else) = one_more _
 statement_high (Switch pos test items) = one_more _
-statement_high (While pos test turn) = one_more _
-statement_high (Do pos turn test) = one_more _
-statement_high (For pos init test step turn) = one_more _
+statement_high (While pos test body) = one_more _
+statement_high (Do pos body test) = one_more _
+statement_high (For pos init test step body) = one_more _
 statement_high (Break pos) = one_more _
 statement_high (Continue pos) = one_more _
 statement_high (Return pos value) = one_more _

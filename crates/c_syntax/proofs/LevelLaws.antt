@@ -9,7 +9,7 @@ use Rattle.c_syntax.specs.declared.operator.Infix.TheVariants as between
 use Rattle.c_syntax.specs.Levels.{conditional, unary, arithmetic_level, comparison_level, infix_level, left_level, right_level}
 use Rattle.c_syntax.specs.ReadExpr.{own_level}
 use Rattle.c_syntax.specs.Scopes.{Scope}
-use Rattle.c_syntax.specs.Tree.{Expr, Const, Id, Text, Paren, Index, Call, Member, Postfix', Prefix', Measure', Cast, Infix', Cond}
+use Rattle.c_syntax.specs.Tree.{Expr, Const, Id, Text, Paren, Index, Call, Member, PostfixOp, PrefixOp, MeasureOp, Cast, InfixOp, Cond}
 use Rattle.c_syntax.specs.WellFormed.{IsExpr}
 
 -- ---- operators
@@ -109,11 +109,11 @@ is_down (Paren inner) scope level higher low is = is
 is_down (Index pos array index) scope level higher low is = (omega (arith, is.0), is.1, is.2)
 is_down (Call pos function arguments) scope level higher low is = (omega (arith, is.0), is.1, is.2)
 is_down (Member pos access whole x) scope level higher low is = (omega (arith, is.0), is.1)
-is_down (Postfix' pos operator operand) scope level higher low is = (omega (arith, is.0), is.1)
-is_down (Prefix' pos operator operand) scope level higher low is = (omega (arith, is.0), is.1)
-is_down (Measure' pos operator type) scope level higher low is = (omega (arith, is.0), is.1)
+is_down (PostfixOp pos operator operand) scope level higher low is = (omega (arith, is.0), is.1)
+is_down (PrefixOp pos operator operand) scope level higher low is = (omega (arith, is.0), is.1)
+is_down (MeasureOp pos operator type) scope level higher low is = (omega (arith, is.0), is.1)
 is_down (Cast pos type operand) scope level higher low is = (omega (arith, is.0), is.1, is.2)
-is_down (Infix' pos operator left right) scope level higher low is = (omega (arith, is.0), is.1, is.2)
+is_down (InfixOp pos operator left right) scope level higher low is = (omega (arith, is.0), is.1, is.2)
 is_down (Cond pos test then else) scope level higher low is = (omega (arith, is.0), is.1, is.2, is.3)
 
 pub own_above : (e : Expr) (scope : Scope) (level : ℕ) → level ≤ unary → IsExpr e scope level → level ≤ own_level e
@@ -124,9 +124,9 @@ own_above (Paren inner) scope level low is = omega arith
 own_above (Index pos array index) scope level low is = omega (arith, is.0)
 own_above (Call pos function arguments) scope level low is = omega (arith, is.0)
 own_above (Member pos access whole x) scope level low is = omega (arith, is.0)
-own_above (Postfix' pos operator operand) scope level low is = omega (arith, is.0)
-own_above (Prefix' pos operator operand) scope level low is = omega (arith, is.0)
-own_above (Measure' pos operator type) scope level low is = omega (arith, is.0)
+own_above (PostfixOp pos operator operand) scope level low is = omega (arith, is.0)
+own_above (PrefixOp pos operator operand) scope level low is = omega (arith, is.0)
+own_above (MeasureOp pos operator type) scope level low is = omega (arith, is.0)
 own_above (Cast pos type operand) scope level low is = omega (arith, is.0)
-own_above (Infix' pos operator left right) scope level low is = omega (arith, is.0)
+own_above (InfixOp pos operator left right) scope level low is = omega (arith, is.0)
 own_above (Cond pos test then else) scope level low is = omega (arith, is.0)

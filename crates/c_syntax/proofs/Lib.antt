@@ -3,8 +3,8 @@ pub mod EmptyLaws
 pub mod Examples
 pub mod FirstLaws
 pub mod HeightLaws
-pub mod Parts
-pub mod PartsUnit
+pub mod SpelledLists
+pub mod SpelledListsUnit
 pub mod Rows
 pub mod ScopeExamples
 pub mod Takes

@@ -5,9 +5,9 @@ use Rattle.c_lexer.specs.declared.token.Token.{Token}
 use Rattle.c_syntax.specs.Height.{height, type_name_height}
 use Rattle.c_syntax.specs.HeightUnit.{externals_height}
 use Rattle.c_syntax.specs.Levels.{expression}
-use Rattle.c_syntax.specs.Reader.{Got, Found}
+use Rattle.c_syntax.specs.Parser.{Outcome, Found}
 use Rattle.c_syntax.specs.ReadToken.{is_literal}
-use Rattle.c_syntax.specs.ReadSpecifier.{readers}
+use Rattle.c_syntax.specs.ReadSpecifier.{parsers}
 use Rattle.c_syntax.specs.ReadBody.{externals}
 use Rattle.c_syntax.specs.Scopes.{Scope}
 use Rattle.c_syntax.specs.Spelling.{spell, spell_type_name}
@@ -19,7 +19,7 @@ use Rattle.c_syntax.specs.WellFormed.{IsExpr, IsTypeName}
 use Rattle.c_syntax.specs.WellFormedUnit.{IsTree}
 use Rattle.c_syntax.proofs.Takes.{match_takes}
 use Rattle.c_syntax.proofs.Full.{EndsExpr}
-use Rattle.c_syntax.proofs.FullDeclarator.{readers_full}
+use Rattle.c_syntax.proofs.FullDeclarator.{parsers_full}
 use Rattle.c_syntax.proofs.FullBody.{externals_full}
 
 -- nothing goes on where nothing comes
@@ -30,20 +30,20 @@ ends level = record { no_literal = no_literal; no_postfix = λ k low left. refl;
     no_literal true = refl
     no_literal false = refl
 
-same_found : {A : Type 0} (g : Got A) (a b : A) (rest : List Token) → g ≡ Found a rest → g ≡ Found b rest → a ≡ b
+same_found : {A : Type 0} (g : Outcome A) (a b : A) (rest : List Token) → g ≡ Found a rest → g ≡ Found b rest → a ≡ b
 same_found g a b rest one two = cc
 
 pub one_expr : (scope : Scope) (a b : Expr) (tokens : List Token) → IsExpr a scope expression → IsExpr b scope expression → Match tokens (spell a) → Match tokens (spell b) → a ≡ b
 one_expr scope a b tokens one two spelled also =
     let k = max (height a) (height b) in
-    let read = (readers_full k).expr scope expression in
-    same_found ((readers k).expr scope expression tokens) a b [] (read a tokens [] (omega arith) one (omega arith) (ends expression) (match_takes tokens (spell a) spelled)) (read b tokens [] (omega arith) two (omega arith) (ends expression) (match_takes tokens (spell b) also))
+    let read = (parsers_full k).expr scope expression in
+    same_found ((parsers k).expr scope expression tokens) a b [] (read a tokens [] (omega arith) one (omega arith) (ends expression) (match_takes tokens (spell a) spelled)) (read b tokens [] (omega arith) two (omega arith) (ends expression) (match_takes tokens (spell b) also))
 
 pub one_type_name : (scope : Scope) (a b : TypeName) (tokens : List Token) → IsTypeName a scope → IsTypeName b scope → Match tokens (spell_type_name a) → Match tokens (spell_type_name b) → a ≡ b
 one_type_name scope a b tokens one two spelled also =
     let k = max (type_name_height a) (type_name_height b) in
-    let read = (readers_full k).type_name scope in
-    same_found ((readers k).type_name scope tokens) a b [] (read a tokens [] one (omega arith) refl refl (match_takes tokens (spell_type_name a) spelled)) (read b tokens [] two (omega arith) refl refl (match_takes tokens (spell_type_name b) also))
+    let read = (parsers_full k).type_name scope in
+    same_found ((parsers k).type_name scope tokens) a b [] (read a tokens [] one (omega arith) refl refl (match_takes tokens (spell_type_name a) spelled)) (read b tokens [] two (omega arith) refl refl (match_takes tokens (spell_type_name b) also))
 
 same_tree : (a b : Tree) → a.externals ≡ b.externals → a.end ≡ b.end → a ≡ b
 same_tree a b one two = ap (λ all. record { externals = all; end = a.end }) one ∙ ap (λ (pos : Pos). record { externals = b.externals; end = pos }) two

@@ -7,7 +7,7 @@ use Rattle.c_lexer.specs.Stream.{Stream}
 use Rattle.c_syntax.specs.declared.spelled.Spelled.{Spelled}
 use Rattle.c_syntax.specs.Begin.{BeginsTree}
 use Rattle.c_syntax.specs.Parsing.{SpelledBy}
-use Rattle.c_syntax.specs.Reader.{Found, Stopped, Why, Unfit}
+use Rattle.c_syntax.specs.Parser.{Found, Stopped, Why, Unfit}
 use Rattle.c_syntax.specs.ReadBody.{externals}
 use Rattle.c_syntax.specs.SpellingUnit.{spell_tree}
 use Rattle.c_syntax.specs.Tokens.{Match, StandsAt}

@@ -8,7 +8,7 @@ use Rattle.c_lexer.specs.Stream.{Stream}
 use Rattle.c_syntax.specs.Begin.{BeginsTree}
 use Rattle.c_syntax.specs.HeightUnit.{greatest_height}
 use Rattle.c_syntax.specs.Parsing.{SpelledBy, RefusedAtToken, RefusedAt, stopped_at}
-use Rattle.c_syntax.specs.Reader.{Got, Found, Stopped, Why, Unfit, TooDeep}
+use Rattle.c_syntax.specs.Parser.{Outcome, Found, Stopped, Why, Unfit, TooDeep}
 use Rattle.c_syntax.specs.ReadBody.{externals}
 use Rattle.c_syntax.specs.TreeUnit.{External, Tree}
 use Rattle.c_syntax.proofs.ParseLaws.{spelled_by, none_spelled, not_begun, never_begun}
@@ -58,7 +58,7 @@ pub refused_at : (stream : Stream) (why : Why) (rest : List Token) → externals
 refused_at stream why [] h = at_end stream why h (externals_viable 254 stream.tokens [] why h)
 refused_at stream why (token ∷ after) h = inl (at_token stream why token after h (externals_viable 254 stream.tokens (token ∷ after) why h))
 
-answered : (stream : Stream) (got : Got (List External)) → externals 254 stream.tokens ≡ got → ((tree : Tree) × SpelledBy stream tree) ⊎ ((why : Refusal) × (pos : Pos) × RefusedAt stream why pos)
+answered : (stream : Stream) (got : Outcome (List External)) → externals 254 stream.tokens ≡ got → ((tree : Tree) × SpelledBy stream tree) ⊎ ((why : Refusal) × (pos : Pos) × RefusedAt stream why pos)
 answered stream (Found all rest) h = inl (record { externals = all; end = stream.end }, spelled_by stream all rest h)
 answered stream (Stopped why rest) h = inr (reason_of why, stopped_at stream rest, refused_at stream why rest h)
 

@@ -38,13 +38,13 @@ pub parameters_listed : (count : _) (row : d.Row_of-Parameter count)
     → parameters_row row ≡ parameters (map parameter_of (d.items-the_row-Parameter count row))
 parameters_listed count d.end_of-Parameter = refl
 parameters_listed count (d.more_of-Parameter shape row declarator rest) =
-    let seen = specifiers_listed _ row ∙ ap specifiers_of (sym (s.items_shown-the_row-Specifier-0 shape row)) in
-    λ i. MoreParameters (Param (seen i) (declarator_of declarator)) (parameters_listed _ rest i)
+    let next_body = specifiers_listed _ row ∙ ap specifiers_of (sym (s.items_shown-the_row-Specifier-0 shape row)) in
+    λ i. MoreParameters (Param (next_body i) (declarator_of declarator)) (parameters_listed _ rest i)
 
 pub members_listed : (count : _) (row : s.Row_of-MemberDeclaration count)
     → members_row row ≡ members (map member_of (s.items-the_row-MemberDeclaration count row))
 members_listed count s.end_of-MemberDeclaration = refl
 members_listed count (s.more_of-MemberDeclaration shape row shape' row' rest) =
-    let seen = specifiers_listed _ row ∙ ap specifiers_of (sym (s.items_shown-the_row-Specifier-0 shape row)) in
+    let next_body = specifiers_listed _ row ∙ ap specifiers_of (sym (s.items_shown-the_row-Specifier-0 shape row)) in
     let seen' = declarators_listed _ row' ∙ ap (λ all. declarators (map declarator_of all)) (sym (m.items_shown-the_row-Declarator-3 shape' row')) in
-    λ i. MoreMembers (Declares (seen i) (seen' i)) (members_listed _ rest i)
+    λ i. MoreMembers (Declares (next_body i) (seen' i)) (members_listed _ rest i)

@@ -3,8 +3,8 @@ use Rattle.std.proofs.Common.{◌≡◌, inl, inr, true, false, [], ◌∷◌, �
 use Rattle.std.specs.Prelude.{codes}
 use Rattle.c_syntax.specs.declared.operator.Prefix.TheVariants.{SizeExpr}
 use Rattle.c_syntax.specs.declared.operator.Measure.TheVariants.{SizeType}
-use Rattle.c_syntax.specs.Tree.{Expr, Paren, Prefix', Measure', Type', Specifier, Enum, NoSpecifier, MoreSpecifiers, With, Without, Enumerates, NoEnumerator, MoreEnumerators, Omitted, Name, ArrayOf, FunctionOf, Param, Parameters, NoParameter, MoreParameters}
-use Rattle.c_syntax.specs.TreeUnit.{Single, Declaration, WithDeclaration, Statement, ExprStmt, If, For, Done, BlockItems, NoBlockItem, MoreBlockItems, Function}
+use Rattle.c_syntax.specs.Tree.{Expr, Paren, PrefixOp, MeasureOp, NamedType, Specifier, Enum, NoSpecifier, MoreSpecifiers, With, Without, Enumerates, NoEnumerator, MoreEnumerators, Omitted, Name, ArrayOf, FunctionOf, Param, Parameters, NoParameter, MoreParameters}
+use Rattle.c_syntax.specs.TreeUnit.{Single, Declaration, WithDeclaration, Statement, ExprStmt, If, For, Executes, BlockItems, NoBlockItem, MoreBlockItems, Function}
 use Rattle.c_syntax.specs.Scopes.{is_type}
 use Rattle.c_syntax.specs.ScopesUnit.{function_adds}
 use Rattle.c_syntax.specs.WellFormed.{IsSpecifier, AreParameters}
@@ -13,10 +13,10 @@ use Rattle.c_syntax.proofs.Examples.{here, typed, a, t, times, int, named}
 
 -- sizeof(T), of a value and of a type
 abbrev size_of_value : Expr
-size_of_value = Prefix' here SizeExpr (Paren t)
+size_of_value = PrefixOp here SizeExpr (Paren t)
 
 abbrev size_of_type : Expr
-size_of_type = Measure' here SizeType (Type' named Omitted)
+size_of_type = MeasureOp here SizeType (NamedType named Omitted)
 
 -- int T = value;
 abbrev declares : Expr → Declaration
@@ -62,7 +62,7 @@ abbrev multiplies : Function
 multiplies = record {
   specifiers = int;
   declarator = FunctionOf (Name here (codes "f")) (MoreParameters (Param int (Name here (codes "T"))) NoParameter) false;
-  body = MoreBlockItems (Done (ExprStmt (Some (times t a)))) NoBlockItem;
+  body = MoreBlockItems (Executes (ExprStmt (Some (times t a)))) NoBlockItem;
 }
 
 pub parameter_in_body : IsFunction multiplies typed
@@ -79,10 +79,10 @@ for_opens = ((inl (omega arith, refl), (tt, tt), (tt, refl, refl, tt)), refl, tt
 -- {if (sizeof(enum {T})) T * a; T * a;} has a type in its last statement, {sizeof(enum {T}); T * a;} has none
 abbrev size_of_enum : Expr
 size_of_enum =
-    Measure' here SizeType (Type' (MoreSpecifiers (Enum here None (MoreEnumerators (Enumerates here (codes "T") Without) NoEnumerator) false) NoSpecifier) Omitted)
+    MeasureOp here SizeType (NamedType (MoreSpecifiers (Enum here None (MoreEnumerators (Enumerates here (codes "T") Without) NoEnumerator) false) NoSpecifier) Omitted)
 
 abbrev then_multiplies : Statement → BlockItems
-then_multiplies first = MoreBlockItems (Done first) (MoreBlockItems (Done (ExprStmt (Some (times t a)))) NoBlockItem)
+then_multiplies first = MoreBlockItems (Executes first) (MoreBlockItems (Executes (ExprStmt (Some (times t a)))) NoBlockItem)
 
 pub behind_if : AreBlockItems (then_multiplies (If here size_of_enum (ExprStmt (Some (times t a))))) typed → ⊥
 behind_if are = cc (are.1.0.1)

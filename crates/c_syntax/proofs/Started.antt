@@ -4,7 +4,7 @@ use Rattle.std.proofs.Common.{◌≡◌, ◌⊎◌, inl, inr, ℕ, suc, ◌≤�
 use Rattle.critical_table.specs.declared.pos.Pos.{Pos}
 use Rattle.c_lexer.specs.declared.punct.Punct.TheVariants as p
 use Rattle.c_lexer.specs.declared.token.Body.{Body}
-use Rattle.c_lexer.specs.declared.token.Body.TheVariants as body
+use Rattle.c_lexer.specs.declared.token.Body.TheVariants as lexeme
 use Rattle.c_lexer.specs.declared.word.Word.{Word}
 use Rattle.c_lexer.specs.declared.word.Word.TheVariants as w
 use Rattle.c_syntax.specs.declared.expression.Constant.TheVariants as constant
@@ -29,8 +29,8 @@ use Rattle.c_syntax.specs.ReadExpr.{begins_expr}
 use Rattle.c_syntax.specs.ReadToken.{is_mark, is_word, begins_type, prefix_of}
 use Rattle.c_syntax.specs.Scopes.{Scope, is_type}
 use Rattle.c_syntax.specs.Spelling.{spell, spell_type_name, spell_specifiers}
-use Rattle.c_syntax.specs.Tokens.{placed, mark, name_at}
-use Rattle.c_syntax.specs.Tree.{Expr, Const, Id, Text, Paren, TypeName, Prefix', Measure', Type', Storage', Qualifier', Inline, BasicWord', CompoundTag, EnumTag, TypedefName, Specifiers, NoSpecifier, MoreSpecifiers, Omitted}
+use Rattle.c_syntax.specs.Tokens.{token_at, mark, name_at}
+use Rattle.c_syntax.specs.Tree.{Expr, Const, Id, Text, Paren, TypeName, PrefixOp, MeasureOp, NamedType, StorageClass, TypeQualifier, Inline, BasicType, CompoundTag, EnumTag, TypedefName, Specifiers, NoSpecifier, MoreSpecifiers, Omitted}
 use Rattle.c_syntax.specs.WellFormed.{SpecifyOneType, IsExpr, IsTypeName, AreSpecifiers}
 use Rattle.c_syntax.proofs.Completions.{Begun, whole_begins}
 use Rattle.c_syntax.proofs.Contexts.{Completed}
@@ -49,13 +49,13 @@ pub expr_completed : (scope : Scope) (level k : ℕ) → Completed (λ e. IsExpr
 expr_completed scope level k = record { node = least_expr; more = spell least_expr; fits = tt; within = omega arith; parts = refl }
 
 abbrev pub least_specifiers : Specifiers
-least_specifiers = MoreSpecifiers (BasicWord' origin basic.Int) NoSpecifier
+least_specifiers = MoreSpecifiers (BasicType origin basic.Int) NoSpecifier
 
 pub one_type : SpecifyOneType least_specifiers
 one_type = inl (omega arith, refl)
 
 abbrev pub least_type : TypeName
-least_type = Type' least_specifiers Omitted
+least_type = NamedType least_specifiers Omitted
 
 pub least_type_fits : (scope : Scope) → IsTypeName least_type scope
 least_type_fits scope = (one_type, (tt, tt), tt, refl)
@@ -86,17 +86,17 @@ module _ (scope : Scope) (level : ℕ) (low : level ≤ unary) (pos : Pos) where
   abbrev Begins : Option Body → Type 0
   Begins = ExprBegun scope level pos
 
-  expr_whole : (next : Body) (e : Expr) (more : List Spelled) → IsExpr e scope level → spell e ≡ placed pos next ∷ more → Begins (Some next)
-  expr_whole next e more fits same = whole_begins (placed pos next) e more refl fits same
+  expr_whole : (next : Body) (e : Expr) (more : List Spelled) → IsExpr e scope level → spell e ≡ token_at pos next ∷ more → Begins (Some next)
+  expr_whole next e more fits same = whole_begins (token_at pos next) e more refl fits same
 
   pub prefix_begun : (operator : Prefix) → Begins (Some (prefix_token operator))
-  prefix_begun operator = expr_whole (prefix_token operator) (Prefix' pos operator least_expr) (spell least_expr) (low, tt) refl
+  prefix_begun operator = expr_whole (prefix_token operator) (PrefixOp pos operator least_expr) (spell least_expr) (low, tt) refl
 
   word_begins : (o : Option Body) → (is_word w.Sizeof o || is_word w.Alignof o) ≡ true → Begins o
   word_begins o h = elim (either (is_word w.Sizeof o) (is_word w.Alignof o) h) [
     | inl x ↦ subst Begins (sym (is_word_is w.Sizeof o x)) (prefix_begun prefix.SizeExpr)
     | inr x ↦ subst Begins (sym (is_word_is w.Alignof o x))
-        (expr_whole (body.Word w.Alignof) (Measure' pos measure.AlignType least_type) (mark p.OpenParen ∷ spell_type_name least_type ++ mark p.CloseParen ∷ []) (low, least_type_fits scope) refl)
+        (expr_whole (lexeme.Word w.Alignof) (MeasureOp pos measure.AlignType least_type) (mark p.OpenParen ∷ spell_type_name least_type ++ mark p.CloseParen ∷ []) (low, least_type_fits scope) refl)
   ]
 
   mark_begins : (o : Option Body) → (is_mark p.OpenParen o || is_some (prefix_of o)) ≡ true → Begins o
@@ -107,12 +107,12 @@ module _ (scope : Scope) (level : ℕ) (low : level ≤ unary) (pos : Pos) where
   ]
 
   pub expr_begun : (o : Option Body) → begins_expr scope o ≡ true → Begins o
-  expr_begun (Some (body.Number number)) h = expr_whole (body.Number number) (Const pos (constant.Number number)) [] tt refl
-  expr_begun (Some (body.Character value wide)) h = expr_whole (body.Character value wide) (Const pos (constant.Character value wide)) [] tt refl
-  expr_begun (Some (body.Literal units wide)) h = expr_whole (body.Literal units wide) (Text pos (record { pieces = units ∷ []; wide = wide })) [] (λ none. cc (none)) refl
-  expr_begun (Some (body.Name x)) h = expr_whole (body.Name x) (Id pos x) [] (not_true (is_type scope x) h) refl
-  expr_begun (Some (body.Word next)) h = word_begins (Some (body.Word next)) h
-  expr_begun (Some (body.Mark next)) h = mark_begins (Some (body.Mark next)) h
+  expr_begun (Some (lexeme.Number number)) h = expr_whole (lexeme.Number number) (Const pos (constant.Number number)) [] tt refl
+  expr_begun (Some (lexeme.Character value wide)) h = expr_whole (lexeme.Character value wide) (Const pos (constant.Character value wide)) [] tt refl
+  expr_begun (Some (lexeme.Literal units wide)) h = expr_whole (lexeme.Literal units wide) (Text pos (record { pieces = units ∷ []; wide = wide })) [] (λ none. cc (none)) refl
+  expr_begun (Some (lexeme.Name x)) h = expr_whole (lexeme.Name x) (Id pos x) [] (not_true (is_type scope x) h) refl
+  expr_begun (Some (lexeme.Word next)) h = word_begins (Some (lexeme.Word next)) h
+  expr_begun (Some (lexeme.Mark next)) h = mark_begins (Some (lexeme.Mark next)) h
   expr_begun None h = absurd (cc (h))
 
 -- ---- a token that begins specifiers
@@ -124,22 +124,22 @@ module _ (scope : Scope) (pos : Pos) where
   abbrev TypeBegins : Option Body → Type 0
   TypeBegins = TypeBegun scope pos
 
-  type_whole : (next : Body) (all : Specifiers) (more : List Spelled) → SpecifyOneType all → AreSpecifiers all scope → spell_specifiers all ≡ placed pos next ∷ more → TypeBegins (Some next)
-  type_whole next all more one fits same = whole_begins (placed pos next) all more refl (one, fits) same
+  type_whole : (next : Body) (all : Specifiers) (more : List Spelled) → SpecifyOneType all → AreSpecifiers all scope → spell_specifiers all ≡ token_at pos next ∷ more → TypeBegins (Some next)
+  type_whole next all more one fits same = whole_begins (token_at pos next) all more refl (one, fits) same
 
-  storage_begins : (word : Storage) → TypeBegins (Some (body.Word (storage_word word)))
-  storage_begins word = type_whole _ (MoreSpecifiers (Storage' pos word) least_specifiers) (spell_specifiers least_specifiers) one_type (tt, (tt, tt)) refl
+  storage_begins : (word : Storage) → TypeBegins (Some (lexeme.Word (storage_word word)))
+  storage_begins word = type_whole _ (MoreSpecifiers (StorageClass pos word) least_specifiers) (spell_specifiers least_specifiers) one_type (tt, (tt, tt)) refl
 
-  qualifier_begins : (word : Qualifier) → TypeBegins (Some (body.Word (qualifier_word word)))
-  qualifier_begins word = type_whole _ (MoreSpecifiers (Qualifier' pos word) least_specifiers) (spell_specifiers least_specifiers) one_type (tt, (tt, tt)) refl
+  qualifier_begins : (word : Qualifier) → TypeBegins (Some (lexeme.Word (qualifier_word word)))
+  qualifier_begins word = type_whole _ (MoreSpecifiers (TypeQualifier pos word) least_specifiers) (spell_specifiers least_specifiers) one_type (tt, (tt, tt)) refl
 
-  basic_begins : (word : BasicWord) → TypeBegins (Some (body.Word (basic_word word)))
-  basic_begins word = type_whole _ (MoreSpecifiers (BasicWord' pos word) NoSpecifier) [] (inl (omega arith, refl)) (tt, tt) refl
+  basic_begins : (word : BasicWord) → TypeBegins (Some (lexeme.Word (basic_word word)))
+  basic_begins word = type_whole _ (MoreSpecifiers (BasicType pos word) NoSpecifier) [] (inl (omega arith, refl)) (tt, tt) refl
 
-  compound_begins : (word : CompoundWord) → TypeBegins (Some (body.Word (compound_word word)))
+  compound_begins : (word : CompoundWord) → TypeBegins (Some (lexeme.Word (compound_word word)))
   compound_begins word = type_whole _ (MoreSpecifiers (CompoundTag pos word least_tag) NoSpecifier) (name_at origin [] ∷ []) (inr (refl, refl)) (tt, tt) refl
 
-  specifier_word_begins : (word : Word) → is_specifier_word word ≡ true → TypeBegins (Some (body.Word word))
+  specifier_word_begins : (word : Word) → is_specifier_word word ≡ true → TypeBegins (Some (lexeme.Word word))
   specifier_word_begins w.Typedef h = storage_begins storage.Typedef
   specifier_word_begins w.Extern h = storage_begins storage.Extern
   specifier_word_begins w.Static h = storage_begins storage.Static
@@ -163,6 +163,6 @@ module _ (scope : Scope) (pos : Pos) where
   specifier_word_begins _ h = absurd (cc (h))
 
   pub type_begun : (o : Option Body) → begins_type scope o ≡ true → TypeBegins o
-  type_begun (Some (body.Word word)) h = specifier_word_begins word h
-  type_begun (Some (body.Name x)) h = type_whole _ (MoreSpecifiers (TypedefName pos x) NoSpecifier) [] (inr (refl, refl)) (h, tt) refl
+  type_begun (Some (lexeme.Word word)) h = specifier_word_begins word h
+  type_begun (Some (lexeme.Name x)) h = type_whole _ (MoreSpecifiers (TypedefName pos x) NoSpecifier) [] (inr (refl, refl)) (h, tt) refl
   type_begun _ h = absurd (cc (h))

@@ -44,8 +44,8 @@ split_last a x b = simp (append_assoc, append-nil)
 step_parts : (a b c d : List Spelled) (x y : Spelled) → a ++ b ++ x ∷ c ++ y ∷ [] ++ d ≡ a ++ (b ++ x ∷ []) ++ (c ++ y ∷ [] ++ d)
 step_parts a b c d x y = simp append_assoc
 
-turn_parts : (a b c d : List Spelled) (x y : Spelled) → a ++ b ++ x ∷ c ++ y ∷ [] ++ d ≡ a ++ (b ++ x ∷ []) ++ (c ++ y ∷ []) ++ (d ++ [])
-turn_parts a b c d x y = simp (append_assoc, append-nil)
+body_parts : (a b c d : List Spelled) (x y : Spelled) → a ++ b ++ x ∷ c ++ y ∷ [] ++ d ≡ a ++ (b ++ x ∷ []) ++ (c ++ y ∷ []) ++ (d ++ [])
+body_parts a b c d x y = simp (append_assoc, append-nil)
 
 -- ---- an expression or none and a mark, and an expression in parentheses
 
@@ -55,8 +55,8 @@ spell_up_to m e = spell_optional e ++ mark m ∷ []
 abbrev InOptional : Punct → Scope → List Spelled → ℕ → Type 0
 InOptional m scope front least = InStatement (λ e. IsOptional e scope) optional_height (spell_up_to m) scope least front
 
-pub evaluated : (scope : Scope) → InOptional p.Semicolon scope [] 0
-evaluated scope = record { make = λ e. ExprStmt e; behind = []; fits = λ e fits. fits; within = λ e j others low. omega arith; spells = λ e. sym (append-nil (spell_up_to p.Semicolon e)) }
+pub expression_statement : (scope : Scope) → InOptional p.Semicolon scope [] 0
+expression_statement scope = record { make = λ e. ExprStmt e; behind = []; fits = λ e fits. fits; within = λ e j others low. omega arith; spells = λ e. sym (append-nil (spell_up_to p.Semicolon e)) }
 
 pub some_statement : (scope : Scope) → InStatement (λ e. IsExpr e scope expression) height spell scope 0 []
 some_statement scope = record { make = λ e. ExprStmt (Some e); behind = mark p.Semicolon ∷ []; fits = λ e fits. fits; within = λ e j others low. omega arith; spells = λ e. refl }
@@ -76,8 +76,8 @@ switch_test scope pos = record { make = λ e. Switch pos e NoSwitchItem; behind 
 pub while_test : (scope : Scope) (pos : Pos) → InTest scope (word_at pos w.While ∷ []) 1
 while_test scope pos = record { make = λ e. While pos e empty; behind = spell_statement empty; fits = λ e fits. (fits, tt); within = λ e j others low. omega arith; spells = λ e. refl }
 
-pub do_test : (scope : Scope) (pos : Pos) (turn : Statement) → IsStatement turn scope → InTest scope (word_at pos w.Do ∷ spell_statement turn ++ word w.While ∷ []) (statement_height turn)
-do_test scope pos turn is = record { make = λ e. Do pos turn e; behind = mark p.Semicolon ∷ []; fits = λ e fits. (is, fits); within = λ e j others low. omega arith; spells = λ e. split_at (word_at pos w.Do ∷ spell_statement turn) (word w.While) (spell_controlling e) (mark p.Semicolon ∷ []) }
+pub do_test : (scope : Scope) (pos : Pos) (body : Statement) → IsStatement body scope → InTest scope (word_at pos w.Do ∷ spell_statement body ++ word w.While ∷ []) (statement_height body)
+do_test scope pos body is = record { make = λ e. Do pos body e; behind = mark p.Semicolon ∷ []; fits = λ e fits. (is, fits); within = λ e j others low. omega arith; spells = λ e. split_at (word_at pos w.Do ∷ spell_statement body) (word w.While) (spell_controlling e) (mark p.Semicolon ∷ []) }
 
 -- ---- statements in statements
 
@@ -97,16 +97,16 @@ if_else scope pos test then is one closed = record {
   spells = λ else. split_last (word_at pos w.If ∷ spell_controlling test ++ spell_statement then) (word w.Else) (spell_statement else);
 }
 
-pub while_turn : (scope : Scope) (pos : Pos) (test : Expr) → IsExpr test scope expression → InBody (scope ++ expr_adds test) scope (word_at pos w.While ∷ spell_controlling test) (height test)
-while_turn scope pos test is = record { make = λ turn. While pos test turn; behind = []; fits = λ turn fits. (is, fits); within = λ turn j others low. omega arith; spells = λ turn. last_part (word_at pos w.While ∷ spell_controlling test) (spell_statement turn) }
+pub while_body : (scope : Scope) (pos : Pos) (test : Expr) → IsExpr test scope expression → InBody (scope ++ expr_adds test) scope (word_at pos w.While ∷ spell_controlling test) (height test)
+while_body scope pos test is = record { make = λ body. While pos test body; behind = []; fits = λ body fits. (is, fits); within = λ body j others low. omega arith; spells = λ body. last_part (word_at pos w.While ∷ spell_controlling test) (spell_statement body) }
 
-pub do_turn : (scope : Scope) (pos : Pos) → InBody scope scope (word_at pos w.Do ∷ []) 1
-do_turn scope pos = record {
-  make = λ turn. Do pos turn least_expr;
+pub do_body : (scope : Scope) (pos : Pos) → InBody scope scope (word_at pos w.Do ∷ []) 1
+do_body scope pos = record {
+  make = λ body. Do pos body least_expr;
   behind = word w.While ∷ spell_controlling least_expr ++ mark p.Semicolon ∷ [];
-  fits = λ turn fits. (fits, tt);
-  within = λ turn j others low. omega arith;
-  spells = λ turn. simp append_assoc;
+  fits = λ body fits. (fits, tt);
+  within = λ body j others low. omega arith;
+  spells = λ body. simp append_assoc;
 }
 
 -- ---- items in braces
@@ -162,12 +162,12 @@ module _ (scope : Scope) (pos : Pos) (init : ForInit) (is : IsForInit init scope
       spells = λ e. step_parts (for_front pos ++ spell_for_init init) (spell_optional test) (spell_optional e) (spell_statement empty) (mark p.Semicolon) (mark p.CloseParen);
     }
 
-    pub for_turn : (step : Option Expr) → IsOptional step (tested ++ optional_adds test)
+    pub for_body : (step : Option Expr) → IsOptional step (tested ++ optional_adds test)
         → InBody (tested ++ optional_adds test ++ optional_adds step) scope (((for_front pos ++ spell_for_init init) ++ spell_up_to p.Semicolon test) ++ spell_up_to p.CloseParen step) (max (max (for_init_height init) (optional_height test)) (optional_height step))
-    for_turn step is_step = record {
-      make = λ turn. For pos init test step turn;
+    for_body step is_step = record {
+      make = λ body. For pos init test step body;
       behind = [];
-      fits = λ turn fits. (is, is_test, is_step, fits);
-      within = λ turn j others low. omega arith;
-      spells = λ turn. turn_parts (for_front pos ++ spell_for_init init) (spell_optional test) (spell_optional step) (spell_statement turn) (mark p.Semicolon) (mark p.CloseParen);
+      fits = λ body fits. (is, is_test, is_step, fits);
+      within = λ body j others low. omega arith;
+      spells = λ body. body_parts (for_front pos ++ spell_for_init init) (spell_optional test) (spell_optional step) (spell_statement body) (mark p.Semicolon) (mark p.CloseParen);
     }

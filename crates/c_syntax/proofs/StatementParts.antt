@@ -7,9 +7,9 @@ use Rattle.c_syntax.specs.Begin.{Begins}
 use Rattle.c_syntax.specs.Height.{height}
 use Rattle.c_syntax.specs.HeightUnit.{declaration_height, optional_height, for_init_height}
 use Rattle.c_syntax.specs.Levels.{expression}
-use Rattle.c_syntax.specs.Reader.{Why, Stopped, ◌>>=◌, give, exactly, seen, place}
+use Rattle.c_syntax.specs.Parser.{Why, Stopped, ◌>>=◌, pure, expect, next_body, place}
 use Rattle.c_syntax.specs.ReadBody.{Statements, declaration_lower, an_expr, optional, controlling, for_init_by, for_init}
-use Rattle.c_syntax.specs.ReadSpecifier.{readers}
+use Rattle.c_syntax.specs.ReadSpecifier.{parsers}
 use Rattle.c_syntax.specs.ReadToken.{is_mark, begins_type}
 use Rattle.c_syntax.specs.Scopes.{Scope}
 use Rattle.c_syntax.specs.Spelling.{spell}
@@ -19,15 +19,15 @@ use Rattle.c_syntax.specs.TreeUnit.{WithDeclaration, WithExpression}
 use Rattle.c_syntax.specs.WellFormed.{IsExpr}
 use Rattle.c_syntax.specs.WellFormedUnit.{IsDeclaration, IsOptional, IsForInit}
 use Rattle.c_syntax.proofs.Completions.{before_part, fewer, refused_behind, too_deep_in}
-use Rattle.c_syntax.proofs.Contexts.{bind_stopped, given_stopped, close_stopped, mark_stopped, wanted_stopped, Completed, Context, refused, into}
+use Rattle.c_syntax.proofs.Contexts.{bind_stopped, given_stopped, close_stopped, mark_stopped, expr_lower_stopped, Completed, Context, refused, into}
 use Rattle.c_syntax.proofs.Found.{chosen, nothing_spelt}
-use Rattle.c_syntax.proofs.SoundExpr.{wanted_found}
-use Rattle.c_syntax.proofs.SoundSpecifier.{readers_sound}
+use Rattle.c_syntax.proofs.SoundExpr.{expr_lower_found}
+use Rattle.c_syntax.proofs.SoundSpecifier.{parsers_sound}
 use Rattle.c_syntax.proofs.Started.{least_expr, expr_begun}
 use Rattle.c_syntax.proofs.StatementContexts.{spell_up_to}
 use Rattle.c_syntax.proofs.Viable.{Holds}
 use Rattle.c_syntax.proofs.ViableDeclaration.{declaration_viable}
-use Rattle.c_syntax.proofs.ViableDeclarator.{readers_viable}
+use Rattle.c_syntax.proofs.ViableDeclarator.{parsers_viable}
 
 -- ---- up to a mark, an expression or none
 
@@ -64,23 +64,23 @@ declaration_lower_viable zero scope tokens rest why some h = absurd (omega (arit
 declaration_lower_viable (suc k) scope tokens rest why some h = declaration_viable k scope tokens rest why h
 
 module _ (k : ℕ) (low : Statements) where
-  some_viable : (m : Punct) (scope : Scope) (tokens rest : List Token) (why : Why) → (an_expr k low scope >>= λ e. exactly (is_mark m) >>= λ _. give (Some e)) tokens ≡ Stopped why rest → Holds (BeginsOptional m scope) k tokens why rest
+  some_viable : (m : Punct) (scope : Scope) (tokens rest : List Token) (why : Why) → (an_expr k low scope >>= λ e. expect (is_mark m) >>= λ _. pure (Some e)) tokens ≡ Stopped why rest → Holds (BeginsOptional m scope) k tokens why rest
   unfolding an_expr
   some_viable m scope tokens rest why h =
-      elim (bind_stopped (an_expr k low scope tokens) (λ e. exactly (is_mark m) >>= λ _. give (Some e)) why rest h) [
-        | inl x ↦ wanted_stopped (Holds (BeginsOptional m scope) k tokens) scope k ((readers k).expr scope expression) tokens why rest x
+      elim (bind_stopped (an_expr k low scope tokens) (λ e. expect (is_mark m) >>= λ _. pure (Some e)) why rest h) [
+        | inl x ↦ expr_lower_stopped (Holds (BeginsOptional m scope) k tokens) scope k ((parsers k).expr scope expression) tokens why rest x
             (refused (nothing_spelt tokens) (no_expr m scope k))
-            (λ begins. too_deep_in (some_expr m scope) (nothing_spelt tokens) (no_expr m scope k) (expr_begun scope expression (omega arith) (place tokens) (seen tokens) begins))
-            (λ some h. into (some_expr m scope) (omega arith) (nothing_spelt tokens) ((readers_viable k).expr scope expression tokens rest why (omega arith) some h))
+            (λ begins. too_deep_in (some_expr m scope) (nothing_spelt tokens) (no_expr m scope k) (expr_begun scope expression (omega arith) (place tokens) (next_body tokens) begins))
+            (λ some h. into (some_expr m scope) (omega arith) (nothing_spelt tokens) ((parsers_viable k).expr scope expression tokens rest why (omega arith) some h))
         | inr x ↦
-            let read = (readers_sound k).expr scope expression (omega arith) tokens x.mid x.value (wanted_found scope k ((readers k).expr scope expression) tokens x.mid x.value x.one) in
+            let read = (parsers_sound k).expr scope expression (omega arith) tokens x.mid x.value (expr_lower_found scope k ((parsers k).expr scope expression) tokens x.mid x.value x.one) in
             close_stopped m (Some x.value) (Holds (BeginsOptional m scope) k tokens) x.mid why rest x.two (refused_behind (some_expr m scope) (omega arith) (nothing_spelt tokens) read)
       ]
 
   pub optional_viable : (m : Punct) (scope : Scope) (tokens rest : List Token) (why : Why) → optional k low (is_mark m) scope tokens ≡ Stopped why rest → Holds (BeginsOptional m scope) k tokens why rest
   unfolding optional
   optional_viable m scope tokens rest why h =
-      elim (chosen (is_mark m (seen tokens)) _ _ tokens (Stopped why rest) h) [
+      elim (chosen (is_mark m (next_body tokens)) _ _ tokens (Stopped why rest) h) [
         | inl x ↦ absurd (cc (x.1))
         | inr x ↦ some_viable m scope tokens rest why x.1
       ]
@@ -88,12 +88,12 @@ module _ (k : ℕ) (low : Statements) where
   pub controlling_viable : (scope : Scope) (tokens rest : List Token) (why : Why) → 0 < k → controlling k low scope tokens ≡ Stopped why rest → Holds (BeginsTest scope) k tokens why rest
   unfolding controlling
   controlling_viable scope tokens rest why some h =
-      mark_stopped p.OpenParen ((readers k).expr scope expression >>= λ test. exactly (is_mark p.CloseParen) >>= λ _. give test) (Holds (BeginsTest scope) k tokens) tokens why rest h
+      mark_stopped p.OpenParen ((parsers k).expr scope expression >>= λ test. expect (is_mark p.CloseParen) >>= λ _. pure test) (Holds (BeginsTest scope) k tokens) tokens why rest h
       (refused (nothing_spelt tokens) (fewer [] (mark p.OpenParen ∷ []) (before_part (in_parens scope) k least_expr tt (omega (arith, some)) (omega arith))))
-      (λ mid opened h. elim (bind_stopped ((readers k).expr scope expression mid) (λ test. exactly (is_mark p.CloseParen) >>= λ _. give test) why rest h) [
-        | inl x ↦ into (in_parens scope) (omega arith) opened ((readers_viable k).expr scope expression mid rest why (omega arith) some x)
+      (λ mid behind_paren h. elim (bind_stopped ((parsers k).expr scope expression mid) (λ test. expect (is_mark p.CloseParen) >>= λ _. pure test) why rest h) [
+        | inl x ↦ into (in_parens scope) (omega arith) behind_paren ((parsers_viable k).expr scope expression mid rest why (omega arith) some x)
         | inr x ↦ close_stopped p.CloseParen x.value (Holds (BeginsTest scope) k tokens) x.mid why rest x.two
-            (refused_behind (in_parens scope) (omega arith) opened ((readers_sound k).expr scope expression (omega arith) mid x.mid x.value x.one))
+            (refused_behind (in_parens scope) (omega arith) behind_paren ((parsers_sound k).expr scope expression (omega arith) mid x.mid x.value x.one))
       ])
 
   for_init_by_viable : (scope : Scope) (tokens rest : List Token) (why : Why) (b : Bool) → 0 < k → for_init_by k low scope b tokens ≡ Stopped why rest → Holds (BeginsForInit scope) k tokens why rest
@@ -104,4 +104,4 @@ module _ (k : ℕ) (low : Statements) where
 
   pub for_init_viable : (scope : Scope) (tokens rest : List Token) (why : Why) → 0 < k → for_init k low scope tokens ≡ Stopped why rest → Holds (BeginsForInit scope) k tokens why rest
   unfolding for_init
-  for_init_viable scope tokens rest why some h = for_init_by_viable scope tokens rest why (begins_type scope (seen tokens)) some h
+  for_init_viable scope tokens rest why some h = for_init_by_viable scope tokens rest why (begins_type scope (next_body tokens)) some h

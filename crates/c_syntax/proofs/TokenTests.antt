@@ -1,4 +1,4 @@
--- What the next token is, by what a reader's test says of it.
+-- What the next token is, by what a parser's test says of it.
 use Rattle.std.proofs.Common.{◌≡◌, Bool, true, false, List, ℤ, Option, Some, None, refl, ap, subst}
 use Rattle.std.proofs.lemmas.Slice.Eq.{bytes_eq-Decides}
 use Rattle.c_lexer.specs.Lookup.{lookup}
@@ -7,7 +7,7 @@ use Rattle.c_lexer.specs.Words.{word_text, words}
 use Rattle.c_lexer.specs.declared.punct.Punct.{Punct}
 use Rattle.c_lexer.specs.declared.punct.Punct.TheVariants as p
 use Rattle.c_lexer.specs.declared.token.Body.{Body}
-use Rattle.c_lexer.specs.declared.token.Body.TheVariants as body
+use Rattle.c_lexer.specs.declared.token.Body.TheVariants as lexeme
 use Rattle.c_lexer.specs.declared.word.Word.{Word}
 use Rattle.c_lexer.specs.declared.word.Word.TheVariants as w
 use Rattle.c_syntax.specs.Operators.{prefix_token, infix_token, storage_word, qualifier_word, basic_word}
@@ -64,9 +64,9 @@ mark_again p.Comma = refl
 pub one_mark : (one other : Punct) → mark_text one ≡ mark_text other → one ≡ other
 one_mark one other same = cc (mark_again one, mark_again other, ap (lookup marks) same)
 
-pub is_mark_is : (mark : Punct) (o : Option Body) → is_mark mark o ≡ true → o ≡ Some (body.Mark mark)
-is_mark_is mark (Some (body.Mark next)) h =
-    ap (λ m. Some (body.Mark m)) (one_mark next mark ((bytes_eq-Decides (mark_text next) (mark_text mark)).0 h))
+pub is_mark_is : (mark : Punct) (o : Option Body) → is_mark mark o ≡ true → o ≡ Some (lexeme.Mark mark)
+is_mark_is mark (Some (lexeme.Mark next)) h =
+    ap (λ m. Some (lexeme.Mark m)) (one_mark next mark ((bytes_eq-Decides (mark_text next) (mark_text mark)).0 h))
 is_mark_is mark _ h = absurd (cc (h))
 
 word_again : (word : Word) → lookup words (word_text word) ≡ Some word
@@ -108,12 +108,12 @@ word_again w.StaticAssert = refl
 pub one_word : (one other : Word) → word_text one ≡ word_text other → one ≡ other
 one_word one other same = cc (word_again one, word_again other, ap (lookup words) same)
 
-pub is_word_is : (word : Word) (o : Option Body) → is_word word o ≡ true → o ≡ Some (body.Word word)
-is_word_is word (Some (body.Word next)) h =
-    ap (λ w. Some (body.Word w)) (one_word next word ((bytes_eq-Decides (word_text next) (word_text word)).0 h))
+pub is_word_is : (word : Word) (o : Option Body) → is_word word o ≡ true → o ≡ Some (lexeme.Word word)
+is_word_is word (Some (lexeme.Word next)) h =
+    ap (λ w. Some (lexeme.Word w)) (one_word next word ((bytes_eq-Decides (word_text next) (word_text word)).0 h))
 is_word_is word _ h = absurd (cc (h))
 
-pub is_literal_width : (wide : Bool) (units : List ℤ) (other : Bool) → is_literal wide (Some (body.Literal units other)) ≡ true → other ≡ wide
+pub is_literal_width : (wide : Bool) (units : List ℤ) (other : Bool) → is_literal wide (Some (lexeme.Literal units other)) ≡ true → other ≡ wide
 is_literal_width true units other h = h
 is_literal_width false units true h = absurd (cc (h))
 is_literal_width false units false h = refl
@@ -128,75 +128,75 @@ IsToken token o (Some a) = o ≡ Some (token a)
 pub token_is : {A : Type 0} (token : A → Body) (o : Option Body) (found : Option A) (a : A) → IsToken token o found → found ≡ Some a → o ≡ Some (token a)
 token_is token o found a is same = subst (IsToken token o) same is
 
-pub name_is : (o : Option Body) → IsToken body.Name o (name_of o)
-name_is (Some (body.Name x)) = refl
+pub name_is : (o : Option Body) → IsToken lexeme.Name o (name_of o)
+name_is (Some (lexeme.Name x)) = refl
 name_is _ = tt
 
 pub prefix_is : (o : Option Body) → IsToken prefix_token o (prefix_of o)
-prefix_is (Some (body.Mark p.Increment)) = refl
-prefix_is (Some (body.Mark p.Decrement)) = refl
-prefix_is (Some (body.Mark p.Ampersand)) = refl
-prefix_is (Some (body.Mark p.Star)) = refl
-prefix_is (Some (body.Mark p.Plus)) = refl
-prefix_is (Some (body.Mark p.Minus)) = refl
-prefix_is (Some (body.Mark p.Tilde)) = refl
-prefix_is (Some (body.Mark p.Exclamation)) = refl
+prefix_is (Some (lexeme.Mark p.Increment)) = refl
+prefix_is (Some (lexeme.Mark p.Decrement)) = refl
+prefix_is (Some (lexeme.Mark p.Ampersand)) = refl
+prefix_is (Some (lexeme.Mark p.Star)) = refl
+prefix_is (Some (lexeme.Mark p.Plus)) = refl
+prefix_is (Some (lexeme.Mark p.Minus)) = refl
+prefix_is (Some (lexeme.Mark p.Tilde)) = refl
+prefix_is (Some (lexeme.Mark p.Exclamation)) = refl
 prefix_is _ = tt
 
-pub infix_is : (o : Option Body) → IsToken (λ operator. body.Mark (infix_token operator)) o (infix_of o)
-infix_is (Some (body.Mark p.Star)) = refl
-infix_is (Some (body.Mark p.Slash)) = refl
-infix_is (Some (body.Mark p.Percent)) = refl
-infix_is (Some (body.Mark p.Plus)) = refl
-infix_is (Some (body.Mark p.Minus)) = refl
-infix_is (Some (body.Mark p.ShiftLeft)) = refl
-infix_is (Some (body.Mark p.ShiftRight)) = refl
-infix_is (Some (body.Mark p.Ampersand)) = refl
-infix_is (Some (body.Mark p.Caret)) = refl
-infix_is (Some (body.Mark p.Bar)) = refl
-infix_is (Some (body.Mark p.Less)) = refl
-infix_is (Some (body.Mark p.Greater)) = refl
-infix_is (Some (body.Mark p.LessEqual)) = refl
-infix_is (Some (body.Mark p.GreaterEqual)) = refl
-infix_is (Some (body.Mark p.Equal)) = refl
-infix_is (Some (body.Mark p.NotEqual)) = refl
-infix_is (Some (body.Mark p.AndAnd)) = refl
-infix_is (Some (body.Mark p.OrOr)) = refl
-infix_is (Some (body.Mark p.Assign)) = refl
-infix_is (Some (body.Mark p.StarAssign)) = refl
-infix_is (Some (body.Mark p.SlashAssign)) = refl
-infix_is (Some (body.Mark p.PercentAssign)) = refl
-infix_is (Some (body.Mark p.PlusAssign)) = refl
-infix_is (Some (body.Mark p.MinusAssign)) = refl
-infix_is (Some (body.Mark p.ShiftLeftAssign)) = refl
-infix_is (Some (body.Mark p.ShiftRightAssign)) = refl
-infix_is (Some (body.Mark p.AmpersandAssign)) = refl
-infix_is (Some (body.Mark p.CaretAssign)) = refl
-infix_is (Some (body.Mark p.BarAssign)) = refl
-infix_is (Some (body.Mark p.Comma)) = refl
+pub infix_is : (o : Option Body) → IsToken (λ operator. lexeme.Mark (infix_token operator)) o (infix_of o)
+infix_is (Some (lexeme.Mark p.Star)) = refl
+infix_is (Some (lexeme.Mark p.Slash)) = refl
+infix_is (Some (lexeme.Mark p.Percent)) = refl
+infix_is (Some (lexeme.Mark p.Plus)) = refl
+infix_is (Some (lexeme.Mark p.Minus)) = refl
+infix_is (Some (lexeme.Mark p.ShiftLeft)) = refl
+infix_is (Some (lexeme.Mark p.ShiftRight)) = refl
+infix_is (Some (lexeme.Mark p.Ampersand)) = refl
+infix_is (Some (lexeme.Mark p.Caret)) = refl
+infix_is (Some (lexeme.Mark p.Bar)) = refl
+infix_is (Some (lexeme.Mark p.Less)) = refl
+infix_is (Some (lexeme.Mark p.Greater)) = refl
+infix_is (Some (lexeme.Mark p.LessEqual)) = refl
+infix_is (Some (lexeme.Mark p.GreaterEqual)) = refl
+infix_is (Some (lexeme.Mark p.Equal)) = refl
+infix_is (Some (lexeme.Mark p.NotEqual)) = refl
+infix_is (Some (lexeme.Mark p.AndAnd)) = refl
+infix_is (Some (lexeme.Mark p.OrOr)) = refl
+infix_is (Some (lexeme.Mark p.Assign)) = refl
+infix_is (Some (lexeme.Mark p.StarAssign)) = refl
+infix_is (Some (lexeme.Mark p.SlashAssign)) = refl
+infix_is (Some (lexeme.Mark p.PercentAssign)) = refl
+infix_is (Some (lexeme.Mark p.PlusAssign)) = refl
+infix_is (Some (lexeme.Mark p.MinusAssign)) = refl
+infix_is (Some (lexeme.Mark p.ShiftLeftAssign)) = refl
+infix_is (Some (lexeme.Mark p.ShiftRightAssign)) = refl
+infix_is (Some (lexeme.Mark p.AmpersandAssign)) = refl
+infix_is (Some (lexeme.Mark p.CaretAssign)) = refl
+infix_is (Some (lexeme.Mark p.BarAssign)) = refl
+infix_is (Some (lexeme.Mark p.Comma)) = refl
 infix_is _ = tt
 
-pub storage_is : (o : Option Body) → IsToken (λ word. body.Word (storage_word word)) o (storage_of o)
-storage_is (Some (body.Word w.Typedef)) = refl
-storage_is (Some (body.Word w.Extern)) = refl
-storage_is (Some (body.Word w.Static)) = refl
-storage_is (Some (body.Word w.Auto)) = refl
-storage_is (Some (body.Word w.Register)) = refl
+pub storage_is : (o : Option Body) → IsToken (λ word. lexeme.Word (storage_word word)) o (storage_of o)
+storage_is (Some (lexeme.Word w.Typedef)) = refl
+storage_is (Some (lexeme.Word w.Extern)) = refl
+storage_is (Some (lexeme.Word w.Static)) = refl
+storage_is (Some (lexeme.Word w.Auto)) = refl
+storage_is (Some (lexeme.Word w.Register)) = refl
 storage_is _ = tt
 
-pub qualifier_is : (o : Option Body) → IsToken (λ word. body.Word (qualifier_word word)) o (qualifier_of o)
-qualifier_is (Some (body.Word w.Const)) = refl
-qualifier_is (Some (body.Word w.Restrict)) = refl
-qualifier_is (Some (body.Word w.Volatile)) = refl
+pub qualifier_is : (o : Option Body) → IsToken (λ word. lexeme.Word (qualifier_word word)) o (qualifier_of o)
+qualifier_is (Some (lexeme.Word w.Const)) = refl
+qualifier_is (Some (lexeme.Word w.Restrict)) = refl
+qualifier_is (Some (lexeme.Word w.Volatile)) = refl
 qualifier_is _ = tt
 
-pub basic_is : (o : Option Body) → IsToken (λ word. body.Word (basic_word word)) o (basic_of o)
-basic_is (Some (body.Word w.Void)) = refl
-basic_is (Some (body.Word w.Char)) = refl
-basic_is (Some (body.Word w.Short)) = refl
-basic_is (Some (body.Word w.Int)) = refl
-basic_is (Some (body.Word w.Long)) = refl
-basic_is (Some (body.Word w.Signed)) = refl
-basic_is (Some (body.Word w.Unsigned)) = refl
-basic_is (Some (body.Word w.Bool)) = refl
+pub basic_is : (o : Option Body) → IsToken (λ word. lexeme.Word (basic_word word)) o (basic_of o)
+basic_is (Some (lexeme.Word w.Void)) = refl
+basic_is (Some (lexeme.Word w.Char)) = refl
+basic_is (Some (lexeme.Word w.Short)) = refl
+basic_is (Some (lexeme.Word w.Int)) = refl
+basic_is (Some (lexeme.Word w.Long)) = refl
+basic_is (Some (lexeme.Word w.Signed)) = refl
+basic_is (Some (lexeme.Word w.Unsigned)) = refl
+basic_is (Some (lexeme.Word w.Bool)) = refl
 basic_is _ = tt

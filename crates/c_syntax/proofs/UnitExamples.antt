@@ -5,8 +5,8 @@ use Rattle.critical_table.specs.declared.refusal.Refusal.TheVariants.{Syntax}
 use Rattle.c_syntax.specs.declared.expression.Constant.TheVariants as constant
 use Rattle.c_syntax.specs.declared.specifier.BasicWord.TheVariants.{Void}
 use Rattle.c_syntax.specs.declared.spelled.Spelled.{Spelled}
-use Rattle.c_syntax.specs.Tree.{Expr, Const, Paren, BasicWord', NoSpecifier, MoreSpecifiers, Omitted, Name, FunctionOf, Param, NoParameter, MoreParameters}
-use Rattle.c_syntax.specs.TreeUnit.{Return, Done, NoBlockItem, MoreBlockItems, Defines, Declaring, Tree}
+use Rattle.c_syntax.specs.Tree.{Expr, Const, Paren, BasicType, NoSpecifier, MoreSpecifiers, Omitted, Name, FunctionOf, Param, NoParameter, MoreParameters}
+use Rattle.c_syntax.specs.TreeUnit.{Return, Executes, NoBlockItem, MoreBlockItems, Defines, Declaring, Tree}
 use Rattle.c_syntax.specs.Height.{height}
 use Rattle.c_syntax.specs.HeightUnit.{tree_height}
 use Rattle.c_syntax.specs.Levels.{expression}
@@ -30,8 +30,8 @@ abbrev main_returns : Expr → Tree
 main_returns expr = record {
   externals = Defines (record {
     specifiers = int;
-    declarator = FunctionOf (Name here (codes "main")) (MoreParameters (Param (MoreSpecifiers (BasicWord' here Void) NoSpecifier) Omitted) NoParameter) false;
-    body = MoreBlockItems (Done (Return here (Some expr))) NoBlockItem;
+    declarator = FunctionOf (Name here (codes "main")) (MoreParameters (Param (MoreSpecifiers (BasicType here Void) NoSpecifier) Omitted) NoParameter) false;
+    body = MoreBlockItems (Executes (Return here (Some expr))) NoBlockItem;
   }) ∷ [];
   end = here;
 }

@@ -4,7 +4,7 @@ use Rattle.c_lexer.specs.declared.punct.Punct.TheVariants as p
 use Rattle.c_lexer.specs.declared.token.Token.{Token}
 use Rattle.c_syntax.specs.Begin.{Begins, BeginsStatement, BeginsBlockItem, BeginsSwitchItem}
 use Rattle.c_syntax.specs.HeightUnit.{block_item_height, block_items_height, switch_item_height, switch_items_height}
-use Rattle.c_syntax.specs.Reader.{Why, Unfit, Reader, Stopped, ◌>>=◌, give, exactly, many}
+use Rattle.c_syntax.specs.Parser.{Why, Unfit, Parser, Stopped, ◌>>=◌, pure, expect, many}
 use Rattle.c_syntax.specs.ReadBody.{switch_items, goes_item, Statements, block_with, switch_with}
 use Rattle.c_syntax.specs.ReadToken.{is_mark}
 use Rattle.c_syntax.specs.Scopes.{Scope}
@@ -42,7 +42,7 @@ behind_block_item scope one fits = record {
   spells = λ all. ap (λ z. spell_block_item one ++ z) (sym (append-nil (spell_block_items all)));
 }
 
-module _ (k : ℕ) (item : Scope → Reader BlockItem) (sound : (scope : Scope) → Sound (λ one. IsBlockItem one scope) block_item_height spell_block_item k (item scope))
+module _ (k : ℕ) (item : Scope → Parser BlockItem) (sound : (scope : Scope) → Sound (λ one. IsBlockItem one scope) block_item_height spell_block_item k (item scope))
     (viable : (scope : Scope) (tokens rest : List Token) (why : Why) → item scope tokens ≡ Stopped why rest → Holds (BeginsBlockItems scope) k tokens why rest) where
   block_items_viable : (scope : Scope) (tokens rest : List Token) (why : Why) → many goes_item item (λ s one. s ++ block_item_adds one) scope tokens ≡ Stopped why rest → Holds (BeginsBlockItems scope) k tokens why rest
   block_items_viable = many_stopped goes_item item (λ s one. s ++ block_item_adds one) (λ s tokens why rest. Holds (BeginsBlockItems s) k tokens why rest)
@@ -56,7 +56,7 @@ module _ (k : ℕ) (item : Scope → Reader BlockItem) (sound : (scope : Scope) 
       → P why rest
   unfolding block_with
   block_with_stopped P scope tokens rest why h first closes =
-      elim (bind_stopped (many goes_item item (λ s one. s ++ block_item_adds one) scope tokens) (λ all. exactly (is_mark p.CloseBrace) >>= λ _. give (block_items all)) why rest h) [
+      elim (bind_stopped (many goes_item item (λ s one. s ++ block_item_adds one) scope tokens) (λ all. expect (is_mark p.CloseBrace) >>= λ _. pure (block_items all)) why rest h) [
         | inl x ↦ first (block_items_viable scope tokens rest why x)
         | inr x ↦ close_stopped p.CloseBrace (block_items x.value) P x.mid why rest x.two (closes (block_items x.value) x.mid (block_items_sound k item sound scope tokens x.mid x.value x.one))
       ]
@@ -79,7 +79,7 @@ behind_switch_item scope one fits = record {
   spells = λ all. ap (λ z. spell_switch_item one ++ z) (sym (append-nil (spell_switch_items all)));
 }
 
-module _ (k : ℕ) (item : Scope → Reader SwitchItem) (sound : (scope : Scope) → Sound (λ one. IsSwitchItem one scope) switch_item_height spell_switch_item k (item scope))
+module _ (k : ℕ) (item : Scope → Parser SwitchItem) (sound : (scope : Scope) → Sound (λ one. IsSwitchItem one scope) switch_item_height spell_switch_item k (item scope))
     (viable : (scope : Scope) (tokens rest : List Token) (why : Why) → item scope tokens ≡ Stopped why rest → Holds (BeginsSwitchItem scope) k tokens why rest) where
   switch_items_viable : (scope : Scope) (tokens rest : List Token) (why : Why) → many goes_item item (λ s one. s ++ switch_item_adds one) scope tokens ≡ Stopped why rest → Holds (BeginsSwitchItems scope) k tokens why rest
   switch_items_viable = many_stopped goes_item item (λ s one. s ++ switch_item_adds one) (λ s tokens why rest. Holds (BeginsSwitchItems s) k tokens why rest)
@@ -93,7 +93,7 @@ module _ (k : ℕ) (item : Scope → Reader SwitchItem) (sound : (scope : Scope)
       → P why rest
   unfolding switch_with
   switch_with_stopped P scope tokens rest why h first closes =
-      elim (bind_stopped (many goes_item item (λ s one. s ++ switch_item_adds one) scope tokens) (λ all. exactly (is_mark p.CloseBrace) >>= λ _. give (switch_items all)) why rest h) [
+      elim (bind_stopped (many goes_item item (λ s one. s ++ switch_item_adds one) scope tokens) (λ all. expect (is_mark p.CloseBrace) >>= λ _. pure (switch_items all)) why rest h) [
         | inl x ↦ first (switch_items_viable scope tokens rest why x)
         | inr x ↦ close_stopped p.CloseBrace (switch_items x.value) P x.mid why rest x.two (closes (switch_items x.value) x.mid (switch_items_sound k item sound scope tokens x.mid x.value x.one))
       ]

@@ -3,7 +3,7 @@ use Rattle.std.proofs.Common.{◌≡◌, inl, inr, ℕ, zero, suc, ◌<◌, List
 use Rattle.critical_table.specs.declared.pos.Pos.{Pos}
 use Rattle.c_lexer.specs.declared.punct.Punct.TheVariants as p
 use Rattle.c_lexer.specs.declared.token.Body.{Body}
-use Rattle.c_lexer.specs.declared.token.Body.TheVariants as body
+use Rattle.c_lexer.specs.declared.token.Body.TheVariants as lexeme
 use Rattle.c_lexer.specs.declared.token.Token.{Token}
 use Rattle.c_lexer.specs.declared.word.Word.TheVariants as w
 use Rattle.c_syntax.specs.declared.spelled.Spelled.{Spelled}
@@ -11,16 +11,16 @@ use Rattle.c_syntax.specs.Begin.{BeginsBlockItem, BeginsSwitchItem}
 use Rattle.c_syntax.specs.Height.{height}
 use Rattle.c_syntax.specs.HeightUnit.{declaration_height, assert_height, statement_height, block_item_height, block_items_height, switch_item_height}
 use Rattle.c_syntax.specs.Levels.{expression, conditional}
-use Rattle.c_syntax.specs.Reader.{Why, Unfit, TooDeep, Stopped, ◌>>=◌, give, stop, skip, exactly, seen, place, tail}
+use Rattle.c_syntax.specs.Parser.{Why, Unfit, TooDeep, Stopped, ◌>>=◌, pure, fail, skip, expect, next_body, place, tail}
 use Rattle.c_syntax.specs.ReadBody.{begins_statement_word, begins_statement, begins_block_item, declaration_at, assert_at, Statements, statement_at, block_item_at, case_on, switch_item_at, statements}
 use Rattle.c_syntax.specs.ReadExpr.{begins_expr}
-use Rattle.c_syntax.specs.ReadSpecifier.{readers}
+use Rattle.c_syntax.specs.ReadSpecifier.{parsers}
 use Rattle.c_syntax.specs.ReadToken.{is_mark, is_word, begins_type}
 use Rattle.c_syntax.specs.Scopes.{Scope}
 use Rattle.c_syntax.specs.Spelling.{spell}
 use Rattle.c_syntax.specs.SpellingUnit.{spell_declaration, spell_assert, spell_statement, spell_block_item, spell_block_items, spell_switch_item}
 use Rattle.c_syntax.specs.Tokens.{mark, word_at}
-use Rattle.c_syntax.specs.TreeUnit.{Block, If, Switch, While, Do, For, Break, Continue, Return, WithExpression, NoSwitchItem, NoBlockItem, BlockItem, Declared, Asserted, Done, Case, Default, Within}
+use Rattle.c_syntax.specs.TreeUnit.{Block, If, Switch, While, Do, For, Break, Continue, Return, WithExpression, NoSwitchItem, NoBlockItem, BlockItem, Declared, Asserted, Executes, Case, Default, InBlock}
 use Rattle.c_syntax.specs.WellFormed.{IsExpr}
 use Rattle.c_syntax.specs.WellFormedUnit.{IsDeclaration, IsAssert, IsStatement, IsBlockItem, AreBlockItems, IsSwitchItem}
 use Rattle.c_syntax.proofs.Completions.{refused_behind, Begun, whole_begins, begins_in, too_deep_here, too_deep_in}
@@ -28,7 +28,7 @@ use Rattle.c_syntax.proofs.Contexts.{stopped, bind_stopped, given_stopped, close
 use Rattle.c_syntax.proofs.Found.{chosen, nothing_spelt, spelt_at}
 use Rattle.c_syntax.proofs.SoundBlock.{SoundStatements}
 use Rattle.c_syntax.proofs.SoundBlockItem.{statements_sound}
-use Rattle.c_syntax.proofs.SoundSpecifier.{readers_sound}
+use Rattle.c_syntax.proofs.SoundSpecifier.{parsers_sound}
 use Rattle.c_syntax.proofs.Started.{least_expr, either, expr_begun, type_begun}
 use Rattle.c_syntax.proofs.StatementContexts.{empty, some_statement}
 use Rattle.c_syntax.proofs.TokenTests.{is_mark_is, is_word_is}
@@ -36,7 +36,7 @@ use Rattle.c_syntax.proofs.Viable.{Holds}
 use Rattle.c_syntax.proofs.ViableAssert.{assert_begun, assertion_stopped}
 use Rattle.c_syntax.proofs.ViableBlock.{ViableStatements, BeginsBlockItems, first_block_item}
 use Rattle.c_syntax.proofs.ViableDeclaration.{all_specifiers, declaration_viable}
-use Rattle.c_syntax.proofs.ViableDeclarator.{readers_viable}
+use Rattle.c_syntax.proofs.ViableDeclarator.{parsers_viable}
 use Rattle.c_syntax.proofs.ViableStatement.{statement_at_viable}
 
 -- ---- what an item of a block is made of
@@ -51,13 +51,13 @@ an_assertion : (scope : Scope) → InItem (λ one. IsAssert one scope) assert_he
 an_assertion scope = record { make = λ one. Asserted one; behind = []; fits = λ one fits. fits; within = λ one j others low. low; spells = λ one. sym (append-nil (spell_assert one)) }
 
 a_statement : (scope : Scope) → InItem (λ one. IsStatement one scope) statement_height spell_statement scope
-a_statement scope = record { make = λ one. Done one; behind = []; fits = λ one fits. fits; within = λ one j others low. low; spells = λ one. sym (append-nil (spell_statement one)) }
+a_statement scope = record { make = λ one. Executes one; behind = []; fits = λ one fits. fits; within = λ one j others low. low; spells = λ one. sym (append-nil (spell_statement one)) }
 
 abbrev InSwitch : {A : Type 0} → (A → Type 0) → (A → ℕ) → (A → List Spelled) → Scope → (ℕ → ℕ) → List Spelled → Type 0
 InSwitch Fits tall spelled scope rise = Context Fits tall spelled (λ one. IsSwitchItem one scope) switch_item_height spell_switch_item rise 0
 
 an_item : (scope : Scope) → InSwitch (λ one. IsBlockItem one scope) block_item_height spell_block_item scope (λ j. j) []
-an_item scope = record { make = λ one. Within one; behind = []; fits = λ one fits. fits; within = λ one j others low. low; spells = λ one. sym (append-nil (spell_block_item one)) }
+an_item scope = record { make = λ one. InBlock one; behind = []; fits = λ one fits. fits; within = λ one j others low. low; spells = λ one. sym (append-nil (spell_block_item one)) }
 
 its_value : (scope : Scope) (pos : Pos) → InSwitch (λ e. IsExpr e scope conditional) height spell scope (λ j. suc j) (word_at pos w.Case ∷ [])
 its_value scope pos = record { make = λ e. Case pos e; behind = mark p.Colon ∷ []; fits = λ e fits. fits; within = λ e j others low. omega arith; spells = λ e. refl }
@@ -69,14 +69,14 @@ module _ (scope : Scope) (pos : Pos) where
   StatementBegins = Begun (λ one. IsStatement one scope) statement_height spell_statement pos
 
   word_begun : (o : Option Body) → begins_statement_word o ≡ true → StatementBegins o
-  word_begun (Some (body.Word w.If)) h = whole_begins (word_at pos w.If) (If pos least_expr empty) _ refl (tt, tt) refl
-  word_begun (Some (body.Word w.Switch)) h = whole_begins (word_at pos w.Switch) (Switch pos least_expr NoSwitchItem) _ refl (tt, tt) refl
-  word_begun (Some (body.Word w.While)) h = whole_begins (word_at pos w.While) (While pos least_expr empty) _ refl (tt, tt) refl
-  word_begun (Some (body.Word w.Do)) h = whole_begins (word_at pos w.Do) (Do pos empty least_expr) _ refl (tt, tt) refl
-  word_begun (Some (body.Word w.For)) h = whole_begins (word_at pos w.For) (For pos (WithExpression None) None None empty) _ refl (tt, tt, tt, tt) refl
-  word_begun (Some (body.Word w.Break)) h = whole_begins (word_at pos w.Break) (Break pos) _ refl tt refl
-  word_begun (Some (body.Word w.Continue)) h = whole_begins (word_at pos w.Continue) (Continue pos) _ refl tt refl
-  word_begun (Some (body.Word w.Return)) h = whole_begins (word_at pos w.Return) (Return pos None) _ refl tt refl
+  word_begun (Some (lexeme.Word w.If)) h = whole_begins (word_at pos w.If) (If pos least_expr empty) _ refl (tt, tt) refl
+  word_begun (Some (lexeme.Word w.Switch)) h = whole_begins (word_at pos w.Switch) (Switch pos least_expr NoSwitchItem) _ refl (tt, tt) refl
+  word_begun (Some (lexeme.Word w.While)) h = whole_begins (word_at pos w.While) (While pos least_expr empty) _ refl (tt, tt) refl
+  word_begun (Some (lexeme.Word w.Do)) h = whole_begins (word_at pos w.Do) (Do pos empty least_expr) _ refl (tt, tt) refl
+  word_begun (Some (lexeme.Word w.For)) h = whole_begins (word_at pos w.For) (For pos (WithExpression None) None None empty) _ refl (tt, tt, tt, tt) refl
+  word_begun (Some (lexeme.Word w.Break)) h = whole_begins (word_at pos w.Break) (Break pos) _ refl tt refl
+  word_begun (Some (lexeme.Word w.Continue)) h = whole_begins (word_at pos w.Continue) (Continue pos) _ refl tt refl
+  word_begun (Some (lexeme.Word w.Return)) h = whole_begins (word_at pos w.Return) (Return pos None) _ refl tt refl
   word_begun _ h = absurd (cc (h))
 
   statement_begun : (o : Option Body) → begins_statement scope o ≡ true → StatementBegins o
@@ -106,59 +106,59 @@ module _ (scope : Scope) (pos : Pos) where
 -- ---- items
 
 no_block_item : (scope : Scope) (k : ℕ) → Completed (λ one. IsBlockItem one scope) block_item_height spell_block_item (suc k) []
-no_block_item scope k = record { node = Done empty; more = mark p.Semicolon ∷ []; fits = tt; within = omega arith; parts = refl }
+no_block_item scope k = record { node = Executes empty; more = mark p.Semicolon ∷ []; fits = tt; within = omega arith; parts = refl }
 
 no_switch_item : (scope : Scope) (k : ℕ) → Completed (λ one. IsSwitchItem one scope) switch_item_height spell_switch_item (suc k) []
-no_switch_item scope k = record { node = Within (Done empty); more = mark p.Semicolon ∷ []; fits = tt; within = omega arith; parts = refl }
+no_switch_item scope k = record { node = InBlock (Executes empty); more = mark p.Semicolon ∷ []; fits = tt; within = omega arith; parts = refl }
 
 module _ (k : ℕ) (low : Statements) (sound : SoundStatements k low) (viable : ViableStatements k low)
     (items : (scope : Scope) (tokens rest : List Token) (why : Why) → low.block_item scope tokens ≡ Stopped why rest → Holds (BeginsBlockItems scope) k tokens why rest) where
   block_item_at_viable : (scope : Scope) (tokens rest : List Token) (why : Why) → block_item_at k low scope tokens ≡ Stopped why rest → Holds (BeginsBlockItem scope) (suc k) tokens why rest
   unfolding block_item_at
   block_item_at_viable scope tokens rest why h =
-      elim (chosen (begins_type scope (seen tokens)) _ _ tokens (Stopped why rest) h) [
+      elim (chosen (begins_type scope (next_body tokens)) _ _ tokens (Stopped why rest) h) [
         | inl x ↦ into (a_declaration scope) (omega arith) (nothing_spelt tokens) (declaration_viable k scope tokens rest why (given_stopped (declaration_at k scope tokens) (λ one. Declared one) why rest x.1))
-        | inr x ↦ elim (chosen (is_word w.StaticAssert (seen tokens)) _ _ tokens (Stopped why rest) x.1) [
+        | inr x ↦ elim (chosen (is_word w.StaticAssert (next_body tokens)) _ _ tokens (Stopped why rest) x.1) [
           | inl y ↦ assertion_stopped k scope tokens rest why (an_assertion scope) (no_block_item scope k) y.0 (given_stopped (assert_at k scope tokens) (λ one. Asserted one) why rest y.1)
           | inr y ↦ into (a_statement scope) (omega arith) (nothing_spelt tokens)
-              (statement_at_viable k low sound viable items scope tokens rest why (given_stopped (statement_at k low scope tokens) (λ one. Done one) why rest y.1))
+              (statement_at_viable k low sound viable items scope tokens rest why (given_stopped (statement_at k low scope tokens) (λ one. Executes one) why rest y.1))
         ]
       ]
 
-  case_viable : (scope : Scope) (tokens rest : List Token) (why : Why) → 0 < k → seen tokens ≡ Some (body.Word w.Case) → case_on k low scope (place tokens) (tail tokens) ≡ Stopped why rest → Holds (BeginsSwitchItem scope) (suc k) tokens why rest
+  case_viable : (scope : Scope) (tokens rest : List Token) (why : Why) → 0 < k → next_body tokens ≡ Some (lexeme.Word w.Case) → case_on k low scope (place tokens) (tail tokens) ≡ Stopped why rest → Holds (BeginsSwitchItem scope) (suc k) tokens why rest
   unfolding case_on
   case_viable scope tokens rest why some is h =
-      let word = spelt_at tokens (body.Word w.Case) is in
+      let word = spelt_at tokens (lexeme.Word w.Case) is in
       let context = its_value scope (place tokens) in
-      elim (bind_stopped ((readers k).expr scope conditional (tail tokens)) (λ value. exactly (is_mark p.Colon) >>= λ _. give (Case (place tokens) value)) why rest h) [
-        | inl x ↦ into context (omega arith) word ((readers_viable k).expr scope conditional (tail tokens) rest why (omega arith) some x)
+      elim (bind_stopped ((parsers k).expr scope conditional (tail tokens)) (λ value. expect (is_mark p.Colon) >>= λ _. pure (Case (place tokens) value)) why rest h) [
+        | inl x ↦ into context (omega arith) word ((parsers_viable k).expr scope conditional (tail tokens) rest why (omega arith) some x)
         | inr x ↦ close_stopped p.Colon (Case (place tokens) x.value) (Holds (BeginsSwitchItem scope) (suc k) tokens) x.mid why rest x.two
-            (refused_behind context (omega arith) word ((readers_sound k).expr scope conditional (omega arith) (tail tokens) x.mid x.value x.one))
+            (refused_behind context (omega arith) word ((parsers_sound k).expr scope conditional (omega arith) (tail tokens) x.mid x.value x.one))
       ]
 
   switch_item_at_viable : (scope : Scope) (tokens rest : List Token) (why : Why) → switch_item_at k low scope tokens ≡ Stopped why rest → Holds (BeginsSwitchItem scope) (suc k) tokens why rest
   unfolding switch_item_at
   switch_item_at_viable scope tokens rest why h =
-      elim (chosen (is_word w.Case (seen tokens)) _ _ tokens (Stopped why rest) h) [
+      elim (chosen (is_word w.Case (next_body tokens)) _ _ tokens (Stopped why rest) h) [
         | inl x ↦
-            let is = is_word_is w.Case (seen tokens) x.0 in
+            let is = is_word_is w.Case (next_body tokens) x.0 in
             deeper_stopped (Holds (BeginsSwitchItem scope) (suc k) tokens) k (skip (case_on k low scope (place tokens))) tokens why rest x.1
             (too_deep_here (no_switch_item scope k) (subst (Begun (λ one. IsSwitchItem one scope) switch_item_height spell_switch_item (place tokens)) (sym is)
             (whole_begins (word_at (place tokens) w.Case) (Case (place tokens) least_expr) (spell least_expr ++ mark p.Colon ∷ []) refl tt refl)))
             (λ some h. case_viable scope tokens rest why some is h)
-        | inr x ↦ elim (chosen (is_word w.Default (seen tokens)) _ _ tokens (Stopped why rest) x.1) [
+        | inr x ↦ elim (chosen (is_word w.Default (next_body tokens)) _ _ tokens (Stopped why rest) x.1) [
           | inl y ↦ close_stopped p.Colon (Default (place tokens)) (Holds (BeginsSwitchItem scope) (suc k) tokens) (tail tokens) why rest y.1
-              (refused (spelt_at tokens (body.Word w.Default) (is_word_is w.Default (seen tokens) y.0)) (record { node = Default (place tokens); more = mark p.Colon ∷ []; fits = tt; within = omega arith; parts = refl }))
-          | inr y ↦ into (an_item scope) (omega arith) (nothing_spelt tokens) (block_item_at_viable scope tokens rest why (given_stopped (block_item_at k low scope tokens) (λ one. Within one) why rest y.1))
+              (refused (spelt_at tokens (lexeme.Word w.Default) (is_word_is w.Default (next_body tokens) y.0)) (record { node = Default (place tokens); more = mark p.Colon ∷ []; fits = tt; within = omega arith; parts = refl }))
+          | inr y ↦ into (an_item scope) (omega arith) (nothing_spelt tokens) (block_item_at_viable scope tokens rest why (given_stopped (block_item_at k low scope tokens) (λ one. InBlock one) why rest y.1))
         ]
       ]
 
--- where no height is left for an item, the reader stops before it
+-- where no height is left for an item, the parser stops before it
 lowest_item_viable : (scope : Scope) (tokens rest : List Token) (why : Why) → (statements 0).block_item scope tokens ≡ Stopped why rest → Holds (BeginsBlockItems scope) 0 tokens why rest
 lowest_item_viable scope tokens rest why h =
     let none : Completed (λ all. AreBlockItems all scope) block_items_height spell_block_items 0 [] = record { node = NoBlockItem; more = []; fits = tt; within = omega arith; parts = refl } in
-    elim (chosen (begins_block_item scope (seen tokens)) (stop {A = BlockItem} TooDeep) (stop Unfit) tokens (Stopped why rest) h) [
-      | inl x ↦ stopped (Holds (BeginsBlockItems scope) 0 tokens) x.1 (too_deep_in (first_block_item scope) (nothing_spelt tokens) none (block_item_begun scope (place tokens) (seen tokens) x.0))
+    elim (chosen (begins_block_item scope (next_body tokens)) (fail {A = BlockItem} TooDeep) (fail Unfit) tokens (Stopped why rest) h) [
+      | inl x ↦ stopped (Holds (BeginsBlockItems scope) 0 tokens) x.1 (too_deep_in (first_block_item scope) (nothing_spelt tokens) none (block_item_begun scope (place tokens) (next_body tokens) x.0))
       | inr x ↦ stopped (Holds (BeginsBlockItems scope) 0 tokens) x.1 (refused (nothing_spelt tokens) none)
     ]
 

@@ -5,14 +5,14 @@ use Rattle.std.specs.List.{flat_map}
 use Rattle.c_lexer.specs.declared.punct.Punct.TheVariants as p
 use Rattle.c_lexer.specs.declared.token.Token.{Token}
 use Rattle.c_lexer.specs.declared.word.Word.TheVariants as w
-use Rattle.c_syntax.specs.declared.form.Form.TheVariants as form
+use Rattle.c_syntax.specs.declared.declarator_form.DeclaratorForm.TheVariants as form
 use Rattle.c_syntax.specs.declared.spelled.Spelled.{Spelled}
 use Rattle.c_syntax.specs.Begin.{Begins, BeginsExternal, BeginsTree}
 use Rattle.c_syntax.specs.Height.{specifiers_height, declarator_height}
 use Rattle.c_syntax.specs.HeightUnit.{block_items_height, declaration_height, assert_height, external_height, externals_height, tree_height}
-use Rattle.c_syntax.specs.Reader.{Why, Stopped, ◌>>=◌, give, look, seen, tail, many}
+use Rattle.c_syntax.specs.Parser.{Why, Stopped, ◌>>=◌, pure, peek, next_body, tail, many}
 use Rattle.c_syntax.specs.ReadBody.{statements, declared_on, assert_at, block_lower, is_body, function_scope, external_declared, external_on, external_by, external_at, externals}
-use Rattle.c_syntax.specs.ReadSpecifier.{readers}
+use Rattle.c_syntax.specs.ReadSpecifier.{parsers}
 use Rattle.c_syntax.specs.ReadToken.{is_mark, is_word}
 use Rattle.c_syntax.specs.Scopes.{Scope, predeclared, specifiers_add}
 use Rattle.c_syntax.specs.ScopesUnit.{own_parameters, external_adds}
@@ -30,7 +30,7 @@ use Rattle.c_syntax.proofs.Sound.{spelt}
 use Rattle.c_syntax.proofs.SoundBlockItem.{statements_sound}
 use Rattle.c_syntax.proofs.SoundBody.{external_sound}
 use Rattle.c_syntax.proofs.SoundDeclaration.{SpecifiersRead, DeclaratorRead}
-use Rattle.c_syntax.proofs.SoundSpecifier.{readers_sound}
+use Rattle.c_syntax.proofs.SoundSpecifier.{parsers_sound}
 use Rattle.c_syntax.proofs.Started.{origin, least_specifiers, one_type}
 use Rattle.c_syntax.proofs.Viable.{Holds}
 use Rattle.c_syntax.proofs.ViableAssert.{assertion_stopped}
@@ -64,10 +64,10 @@ module _ (k : ℕ) where
     }
 
     -- some height is left for the body, since there is a declarator
-    body_viable : (j : ℕ) → suc j ≡ k → (tokens rest : List Token) (one : Declarator) (why : Why) → DeclaratorRead k (scope ++ specifiers_add all) mid one tokens → is_body one (seen tokens) ≡ true
+    body_viable : (j : ℕ) → suc j ≡ k → (tokens rest : List Token) (one : Declarator) (why : Why) → DeclaratorRead k (scope ++ specifiers_add all) mid one tokens → is_body one (next_body tokens) ≡ true
         → block_lower (suc j) (function_scope k scope all one) (tail tokens) ≡ Stopped why rest → Holds (BeginsExternal scope) (suc (suc j)) start why rest
     body_viable j room tokens rest one why declared body h =
-        let parts = and_parts (is_mark p.OpenBrace (seen tokens)) (is_some (own_parameters one)) body in
+        let parts = and_parts (is_mark p.OpenBrace (next_body tokens)) (is_some (own_parameters one)) body in
         let inner : Scope = function_scope k scope all one in
         let context = body_of one parts.1 declared.fits in
         let before = joined (joined (spelt specified) (spelt declared)) (spelt_mark p.OpenBrace tokens parts.0) in
@@ -76,12 +76,12 @@ module _ (k : ℕ) where
         (λ x. into context others before x)
         (λ items mid read. refused_behind context others before read)
 
-    lower_viable : (tokens rest : List Token) (one : Declarator) (why : Why) (m : ℕ) → m ≡ k → DeclaratorRead k (scope ++ specifiers_add all) mid one tokens → is_body one (seen tokens) ≡ true
+    lower_viable : (tokens rest : List Token) (one : Declarator) (why : Why) (m : ℕ) → m ≡ k → DeclaratorRead k (scope ++ specifiers_add all) mid one tokens → is_body one (next_body tokens) ≡ true
         → block_lower m (function_scope k scope all one) (tail tokens) ≡ Stopped why rest → Holds (BeginsExternal scope) (suc m) start why rest
     lower_viable tokens rest one why zero room declared body h = absurd (omega (arith, room, named_room one declared.fits.1 declared.within))
     lower_viable tokens rest one why (suc j) room declared body h = body_viable j room tokens rest one why declared body h
 
-    external_declared_viable : (tokens rest : List Token) (one : Declarator) (why : Why) (b : Bool) → DeclaratorRead k (scope ++ specifiers_add all) mid one tokens → is_body one (seen tokens) ≡ b
+    external_declared_viable : (tokens rest : List Token) (one : Declarator) (why : Why) (b : Bool) → DeclaratorRead k (scope ++ specifiers_add all) mid one tokens → is_body one (next_body tokens) ≡ b
         → external_declared k scope all one b tokens ≡ Stopped why rest → Holds (BeginsExternal scope) (suc k) start why rest
     external_declared_viable tokens rest one why true declared body h =
         lower_viable tokens rest one why k refl declared body (given_stopped (block_lower k (function_scope k scope all one) (tail tokens)) (λ items. Defines (record { specifiers = all; declarator = one; body = items })) why rest h)
@@ -93,26 +93,26 @@ module _ (k : ℕ) where
     unfolding external_on
     external_by_viable rest why true h = absurd (cc (h))
     external_by_viable rest why false h =
-        elim (bind_stopped ((readers k).declarator form.Named (scope ++ specifiers_add all) mid) (external_on k scope all) why rest h) [
+        elim (bind_stopped ((parsers k).declarator form.Named (scope ++ specifiers_add all) mid) (external_on k scope all) why rest h) [
           | inl x ↦ into (a_declaration scope) (omega arith) (nothing_spelt start) (declarator_stopped scope start mid all k rest why specified x)
-          | inr x ↦ external_declared_viable x.mid rest x.value why (is_body x.value (seen x.mid)) ((readers_sound k).declarator form.Named (scope ++ specifiers_add all) mid x.mid x.value x.one) refl x.two
+          | inr x ↦ external_declared_viable x.mid rest x.value why (is_body x.value (next_body x.mid)) ((parsers_sound k).declarator form.Named (scope ++ specifiers_add all) mid x.mid x.value x.one) refl x.two
         ]
 
-  specified_viable : (scope : Scope) (tokens rest : List Token) (why : Why) → ((readers k).specifiers scope >>= λ all. look (λ next. external_by k scope all (is_mark p.Semicolon next))) tokens ≡ Stopped why rest
+  specified_viable : (scope : Scope) (tokens rest : List Token) (why : Why) → ((parsers k).specifiers scope >>= λ all. peek (λ next. external_by k scope all (is_mark p.Semicolon next))) tokens ≡ Stopped why rest
       → Holds (BeginsExternal scope) (suc k) tokens why rest
   specified_viable scope tokens rest why h =
-      elim (bind_stopped ((readers k).specifiers scope tokens) (λ all. look (λ next. external_by k scope all (is_mark p.Semicolon next))) why rest h) [
+      elim (bind_stopped ((parsers k).specifiers scope tokens) (λ all. peek (λ next. external_by k scope all (is_mark p.Semicolon next))) why rest h) [
         | inl x ↦ into (a_declaration scope) (omega arith) (nothing_spelt tokens) (specifiers_stopped k scope tokens rest why x)
-        | inr x ↦ external_by_viable scope tokens x.value x.mid ((readers_sound k).specifiers scope tokens x.mid x.value x.one) rest why (is_mark p.Semicolon (seen x.mid)) x.two
+        | inr x ↦ external_by_viable scope tokens x.value x.mid ((parsers_sound k).specifiers scope tokens x.mid x.value x.one) rest why (is_mark p.Semicolon (next_body x.mid)) x.two
       ]
 
-  asserting_viable : (scope : Scope) (tokens rest : List Token) (why : Why) → is_word w.StaticAssert (seen tokens) ≡ true → assert_at k scope tokens ≡ Stopped why rest → Holds (BeginsExternal scope) (suc k) tokens why rest
+  asserting_viable : (scope : Scope) (tokens rest : List Token) (why : Why) → is_word w.StaticAssert (next_body tokens) ≡ true → assert_at k scope tokens ≡ Stopped why rest → Holds (BeginsExternal scope) (suc k) tokens why rest
   asserting_viable scope tokens rest why is h = assertion_stopped k scope tokens rest why (an_assertion scope) (record { node = Declaring (record { specifiers = least_specifiers; declarators = [] }); more = spell_declaration (record { specifiers = least_specifiers; declarators = [] }); fits = (one_type, (tt, tt), tt); within = omega arith; parts = refl }) is h
 
   pub external_viable : (scope : Scope) (tokens rest : List Token) (why : Why) → external_at k scope tokens ≡ Stopped why rest → Holds (BeginsExternal scope) (suc k) tokens why rest
   unfolding external_at
   external_viable scope tokens rest why h =
-      elim (chosen (is_word w.StaticAssert (seen tokens)) _ _ tokens (Stopped why rest) h) [
+      elim (chosen (is_word w.StaticAssert (next_body tokens)) _ _ tokens (Stopped why rest) h) [
         | inl x ↦ asserting_viable scope tokens rest why x.0 (given_stopped (assert_at k scope tokens) (λ one. Asserting one) why rest x.1)
         | inr x ↦ specified_viable scope tokens rest why x.1
       ]
@@ -162,7 +162,7 @@ module _ (k : ℕ) where
   unfolding externals
   externals_viable tokens rest why h =
       let more = λ (first : External). many (λ s o. is_some o) (external_at k) (λ s one. s ++ external_adds one) (predeclared ++ external_adds first) in
-      elim (bind_stopped (external_at k predeclared tokens) (λ first. more first >>= λ rest. give (first ∷ rest)) why rest h) [
+      elim (bind_stopped (external_at k predeclared tokens) (λ first. more first >>= λ rest. pure (first ∷ rest)) why rest h) [
         | inl x ↦ into one_external (omega arith) (nothing_spelt tokens) (external_viable predeclared tokens rest why x)
         | inr x ↦
             let first = external_sound k predeclared tokens x.mid x.value x.one in

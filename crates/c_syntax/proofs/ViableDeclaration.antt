@@ -2,14 +2,14 @@
 use Rattle.std.proofs.Common.{◌≡◌, inl, inr, ℕ, zero, suc, ◌<◌, ◌≤◌, List, [], ◌∷◌, ◌++◌, map, max, Bool, true, false, Some, None, refl, sym, ap, append_assoc, append-nil, arith}
 use Rattle.c_lexer.specs.declared.punct.Punct.TheVariants as p
 use Rattle.c_lexer.specs.declared.token.Token.{Token}
-use Rattle.c_syntax.specs.declared.form.Form.TheVariants as form
+use Rattle.c_syntax.specs.declared.declarator_form.DeclaratorForm.TheVariants as form
 use Rattle.c_syntax.specs.Begin.{Begins, BeginsDeclaration}
 use Rattle.c_syntax.specs.Height.{declarator_height, specifiers_height}
 use Rattle.c_syntax.specs.HeightUnit.{initializer_height, init_declarators_height, declaration_height}
-use Rattle.c_syntax.specs.Reader.{Why, TooDeep, Found, Stopped, ◌>>=◌, give, stop, exactly, seen, place, tail, ones, goes_listing, behind_comma, next_listing, more_listed}
-use Rattle.c_syntax.specs.ReadDeclarator.{begins_declarator, no_declarator, omitted}
+use Rattle.c_syntax.specs.Parser.{Why, TooDeep, Found, Stopped, ◌>>=◌, pure, fail, expect, next_body, place, tail, ones, goes_listing, behind_comma, next_listing, more_listed}
+use Rattle.c_syntax.specs.ReadDeclarator.{begins_declarator, no_declarator, omission}
 use Rattle.c_syntax.specs.ReadBody.{initializers, init_by, init_on, init_declarator, init_declarator_adds, more_declarators, declared_on, declaration_by, declaration_on, declaration_at}
-use Rattle.c_syntax.specs.ReadSpecifier.{readers}
+use Rattle.c_syntax.specs.ReadSpecifier.{parsers}
 use Rattle.c_syntax.specs.ReadToken.{is_mark}
 use Rattle.c_syntax.specs.Scopes.{Scope, names_types, specifiers_add}
 use Rattle.c_syntax.specs.Spelling.{spell_declarator, spell_specifiers}
@@ -23,7 +23,7 @@ use Rattle.c_syntax.proofs.Completions.{too_deep_in, refused_behind}
 use Rattle.c_syntax.proofs.FullDeclaration.{named_token}
 use Rattle.c_syntax.proofs.HeightLaws.{declarator_high}
 use Rattle.c_syntax.proofs.ViableInitializer.{initializers_viable}
-use Rattle.c_syntax.proofs.SoundSpecifier.{readers_sound}
+use Rattle.c_syntax.proofs.SoundSpecifier.{parsers_sound}
 use Rattle.std.specs.List.{flat_map}
 use Rattle.std.proofs.lemmas.Bool.{and_parts}
 use Rattle.c_syntax.specs.declared.spelled.Spelled.{Spelled}
@@ -32,7 +32,7 @@ use Rattle.c_syntax.proofs.Found.{moved, bind_found, chosen, joined, nothing_spe
 use Rattle.c_syntax.proofs.Sound.{HasForm, spelt}
 use Rattle.c_syntax.proofs.SoundDeclaration.{behind, IsInitOne, SpecifiersRead, DeclaratorRead, init_on_sound, init_declarator_sound, first_init, more_declarators_sound}
 use Rattle.c_syntax.proofs.Viable.{Holds}
-use Rattle.c_syntax.proofs.ViableDeclarator.{readers_viable}
+use Rattle.c_syntax.proofs.ViableDeclarator.{parsers_viable}
 use Rattle.c_syntax.proofs.ViableNested.{declarator_begun}
 
 -- ---- a declarator in a declaration
@@ -65,17 +65,17 @@ module _ (scope : Scope) (tokens mid : List Token) (all : Specifiers) where
   lowest_stopped : (rest : List Token) (why : Why) → SpecifiersRead 0 scope tokens all mid → no_declarator form.Named mid ≡ Stopped why rest → Holds (BeginsDeclaration scope) 1 tokens why rest
   unfolding no_declarator
   lowest_stopped rest why read h =
-      elim (chosen (begins_declarator form.Named (seen mid)) (stop TooDeep) (omitted form.Named) mid (Stopped why rest) h) [
-        | inl x ↦ stopped (Holds (BeginsDeclaration scope) 1 tokens) x.1 (too_deep_in (first_declarator scope all read.fits) (spelt read) (no_declarators scope all 0 read.fits read.within) (declarator_begun (scope ++ specifiers_add all) (place mid) form.Named (seen mid) x.0))
+      elim (chosen (begins_declarator form.Named (next_body mid)) (fail TooDeep) (omission form.Named) mid (Stopped why rest) h) [
+        | inl x ↦ stopped (Holds (BeginsDeclaration scope) 1 tokens) x.1 (too_deep_in (first_declarator scope all read.fits) (spelt read) (no_declarators scope all 0 read.fits read.within) (declarator_begun (scope ++ specifiers_add all) (place mid) form.Named (next_body mid) x.0))
         | inr x ↦ stopped (Holds (BeginsDeclaration scope) 1 tokens) x.1 (refused (spelt read) (no_declarators scope all 0 read.fits read.within))
       ]
 
-  -- where no height is left for a declarator, the reader stops before it
-  pub declarator_stopped : (k : ℕ) (rest : List Token) (why : Why) → SpecifiersRead k scope tokens all mid → (readers k).declarator form.Named (scope ++ specifiers_add all) mid ≡ Stopped why rest
+  -- where no height is left for a declarator, the parser stops before it
+  pub declarator_stopped : (k : ℕ) (rest : List Token) (why : Why) → SpecifiersRead k scope tokens all mid → (parsers k).declarator form.Named (scope ++ specifiers_add all) mid ≡ Stopped why rest
       → Holds (BeginsDeclaration scope) (suc k) tokens why rest
   declarator_stopped zero rest why read h = lowest_stopped rest why read h
   declarator_stopped (suc k) rest why read h =
-      into (first_declarator scope all read.fits) read.within (spelt read) ((readers_viable (suc k)).declarator form.Named (scope ++ specifiers_add all) mid rest why (omega arith) h)
+      into (first_declarator scope all read.fits) read.within (spelt read) ((parsers_viable (suc k)).declarator form.Named (scope ++ specifiers_add all) mid rest why (omega arith) h)
 
 -- ---- a declarator and what follows its `=`
 
@@ -100,7 +100,7 @@ module _ (k : ℕ) where
   }
 
   module _ (names_type : Bool) (scope : Scope) (start tokens rest : List Token) (one : Declarator) (why : Why) (before : DeclaratorRead k scope start one tokens) where
-    init_by_viable : (b : Bool) → is_mark p.Assign (seen tokens) ≡ b → init_by k (behind k names_type scope one) one b tokens ≡ Stopped why rest → Holds (BeginsInit names_type scope) k start why rest
+    init_by_viable : (b : Bool) → is_mark p.Assign (next_body tokens) ≡ b → init_by k (behind k names_type scope one) one b tokens ≡ Stopped why rest → Holds (BeginsInit names_type scope) k start why rest
     init_by_viable true is h =
         into (its_initializer names_type scope one before.fits) before.within (joined (spelt before) (spelt_mark p.Assign tokens is))
         ((initializers_viable k).initializer (behind k names_type scope one) (tail tokens) rest why (named_room one before.fits.1 before.within) (given_stopped ((initializers k).initializer (behind k names_type scope one) (tail tokens)) _ why rest h))
@@ -108,14 +108,14 @@ module _ (k : ℕ) where
 
     init_on_viable : init_on k names_type scope one tokens ≡ Stopped why rest → Holds (BeginsInit names_type scope) k start why rest
     unfolding init_on
-    init_on_viable h = init_by_viable (is_mark p.Assign (seen tokens)) refl h
+    init_on_viable h = init_by_viable (is_mark p.Assign (next_body tokens)) refl h
 
   init_declarator_viable : (names_type : Bool) (scope : Scope) (tokens rest : List Token) (why : Why) → 0 < k → init_declarator k names_type scope tokens ≡ Stopped why rest → Holds (BeginsInit names_type scope) k tokens why rest
   unfolding init_declarator
   init_declarator_viable names_type scope tokens rest why some h =
-      elim (bind_stopped ((readers k).declarator form.Named scope tokens) (init_on k names_type scope) why rest h) [
-        | inl x ↦ into (bare_declarator names_type scope) (omega arith) (nothing_spelt tokens) ((readers_viable k).declarator form.Named scope tokens rest why some x)
-        | inr x ↦ init_on_viable names_type scope tokens x.mid rest x.value why ((readers_sound k).declarator form.Named scope tokens x.mid x.value x.one) x.two
+      elim (bind_stopped ((parsers k).declarator form.Named scope tokens) (init_on k names_type scope) why rest h) [
+        | inl x ↦ into (bare_declarator names_type scope) (omega arith) (nothing_spelt tokens) ((parsers_viable k).declarator form.Named scope tokens rest why some x)
+        | inr x ↦ init_on_viable names_type scope tokens x.mid rest x.value why ((parsers_sound k).declarator form.Named scope tokens x.mid x.value x.one) x.two
       ]
 
   -- ---- the declarators behind a first one
@@ -142,7 +142,7 @@ module _ (k : ℕ) where
     spells = λ all. ap (λ z. (mark p.Comma ∷ spell_init_declarator one) ++ z) (sym (append-nil (spell_more all)));
   }
 
-  one_more : (names_type : Bool) (scope : Scope) (tokens mid rest : List Token) (one : InitDeclarator) (why : Why) → is_mark p.Comma (seen tokens) ≡ true → init_declarator k names_type scope (tail tokens) ≡ Found one mid
+  one_more : (names_type : Bool) (scope : Scope) (tokens mid rest : List Token) (one : InitDeclarator) (why : Why) → is_mark p.Comma (next_body tokens) ≡ true → init_declarator k names_type scope (tail tokens) ≡ Found one mid
       → Holds (BeginsMore names_type (scope ++ init_declarator_adds k names_type one)) k mid why rest → Holds (BeginsMore names_type scope) k tokens why rest
   one_more names_type scope tokens mid rest one why comma h then =
       let x = init_declarator_sound k names_type scope (tail tokens) mid one h in
@@ -152,15 +152,15 @@ module _ (k : ℕ) where
   unfolding more_declarators more_listed behind_comma
   more_viable names_type scope tokens rest why some h =
       let next = λ (s : Scope) (one : InitDeclarator). s ++ init_declarator_adds k names_type one in
-      many_stopped (goes_listing (is_mark p.Comma) (λ o. false) (give tt) (init_declarator k names_type) next)
-      (behind_comma (is_mark p.Comma) (λ o. false) (give tt) (init_declarator k names_type) next)
-      (next_listing (is_mark p.Comma) (λ o. false) (give tt) (init_declarator k names_type) next)
+      many_stopped (goes_listing (is_mark p.Comma) (λ o. false) (pure tt) (init_declarator k names_type) next)
+      (behind_comma (is_mark p.Comma) (λ o. false) (pure tt) (init_declarator k names_type) next)
+      (next_listing (is_mark p.Comma) (λ o. false) (pure tt) (init_declarator k names_type) next)
       (λ l tokens why rest. Holds (BeginsMore names_type l.state) k tokens why rest)
       (λ l tokens rest why goes h. into (one_behind names_type l.state) (omega arith) (spelt_mark p.Comma tokens (and_parts _ _ goes).1)
       (init_declarator_viable names_type l.state (tail tokens) rest why some (given_stopped (init_declarator k names_type l.state (tail tokens)) (λ one. Some one) why rest h)))
       (λ l tokens mid rest found why goes h then.
-      let x = bind_found (init_declarator k names_type l.state (tail tokens)) (λ one. give (Some one)) found mid h in
-      moved (λ found mid. Holds (BeginsMore names_type (next_listing (is_mark p.Comma) (λ o. false) (give tt) (init_declarator k names_type) next l found).state) k mid why rest → Holds (BeginsMore names_type l.state) k tokens why rest)
+      let x = bind_found (init_declarator k names_type l.state (tail tokens)) (λ one. pure (Some one)) found mid h in
+      moved (λ found mid. Holds (BeginsMore names_type (next_listing (is_mark p.Comma) (λ o. false) (pure tt) (init_declarator k names_type) next l found).state) k mid why rest → Holds (BeginsMore names_type l.state) k tokens why rest)
       {a = Some x.value} {tokens = x.mid} x.two (one_more names_type l.state tokens x.mid rest x.value why (and_parts _ _ goes).1 x.one) then)
       (record { state = scope; over = false }) tokens rest why h
 
@@ -197,14 +197,14 @@ module _ (k : ℕ) where
       let inner : Scope = scope ++ specifiers_add all in
       let types : Bool = names_types all in
       elim (bind_stopped (init_on k types inner one tokens) (λ first. more_declarators k types (inner ++ init_declarator_adds k types first) >>= λ rest.
-      exactly (is_mark p.Semicolon) >>= λ _. give {A = Declaration} (record { specifiers = all; declarators = first ∷ ones rest })) why rest h) [
+      expect (is_mark p.Semicolon) >>= λ _. pure {A = Declaration} (record { specifiers = all; declarators = first ∷ ones rest })) why rest h) [
         | inl x ↦ into (first_init_declarator scope all specified.fits) specified.within (spelt specified) (init_on_viable types inner mid tokens rest one why declared x)
         | inr x ↦
             let first = init_on_sound k types inner mid tokens x.mid one x.value declared x.one in
             let context = more_init_declarators scope all x.value specified.fits first.fits in
             let others : max (specifiers_height all) (init_declarators_height (x.value ∷ [])) ≤ k = omega (arith, specified.within, first.within) in
             elim (bind_stopped (more_declarators k types (inner ++ init_declarator_adds k types x.value) x.mid) (λ rest.
-            exactly (is_mark p.Semicolon) >>= λ _. give {A = Declaration} (record { specifiers = all; declarators = x.value ∷ ones rest })) why rest x.two) [
+            expect (is_mark p.Semicolon) >>= λ _. pure {A = Declaration} (record { specifiers = all; declarators = x.value ∷ ones rest })) why rest x.two) [
               | inl y ↦ into context others (joined (spelt specified) (spelt first)) (more_viable types (inner ++ init_declarator_adds k types x.value) x.mid rest why (named_room one declared.fits.1 declared.within) y)
               | inr y ↦ close_stopped {B = Declaration} p.Semicolon (record { specifiers = all; declarators = x.value ∷ ones y.value }) (Holds (BeginsDeclaration scope) (suc k) start) y.mid why rest y.two
                   (refused_behind context others (joined (spelt specified) (spelt first)) (more_declarators_sound k types (inner ++ init_declarator_adds k types x.value) x.mid y.mid y.value y.one))
@@ -220,23 +220,23 @@ module _ (k : ℕ) where
     spells = λ all. ap (λ z. z ++ mark p.Semicolon ∷ []) (append-nil (spell_specifiers all));
   }
 
-  pub specifiers_stopped : (scope : Scope) (tokens rest : List Token) (why : Why) → (readers k).specifiers scope tokens ≡ Stopped why rest → Holds (BeginsDeclaration scope) (suc k) tokens why rest
-  specifiers_stopped scope tokens rest why h = into (all_specifiers scope) (omega arith) (nothing_spelt tokens) ((readers_viable k).specifiers scope tokens rest why h)
+  pub specifiers_stopped : (scope : Scope) (tokens rest : List Token) (why : Why) → (parsers k).specifiers scope tokens ≡ Stopped why rest → Holds (BeginsDeclaration scope) (suc k) tokens why rest
+  specifiers_stopped scope tokens rest why h = into (all_specifiers scope) (omega arith) (nothing_spelt tokens) ((parsers_viable k).specifiers scope tokens rest why h)
 
   declaration_by_viable : (scope : Scope) (start tokens rest : List Token) (all : Specifiers) (why : Why) (b : Bool) → SpecifiersRead k scope start all tokens → declaration_by k (scope ++ specifiers_add all) all b tokens ≡ Stopped why rest
       → Holds (BeginsDeclaration scope) (suc k) start why rest
   declaration_by_viable scope start tokens rest all why true specified h = absurd (cc (h))
   declaration_by_viable scope start tokens rest all why false specified h =
       let inner : Scope = scope ++ specifiers_add all in
-      elim (bind_stopped ((readers k).declarator form.Named inner tokens) (λ one. declared_on k inner all one) why rest h) [
+      elim (bind_stopped ((parsers k).declarator form.Named inner tokens) (λ one. declared_on k inner all one) why rest h) [
         | inl x ↦ declarator_stopped scope start tokens all k rest why specified x
-        | inr x ↦ declared_on_viable scope start tokens x.mid rest all x.value why specified ((readers_sound k).declarator form.Named inner tokens x.mid x.value x.one) x.two
+        | inr x ↦ declared_on_viable scope start tokens x.mid rest all x.value why specified ((parsers_sound k).declarator form.Named inner tokens x.mid x.value x.one) x.two
       ]
 
   pub declaration_viable : (scope : Scope) (tokens rest : List Token) (why : Why) → declaration_at k scope tokens ≡ Stopped why rest → Holds (BeginsDeclaration scope) (suc k) tokens why rest
   unfolding declaration_at declaration_on
   declaration_viable scope tokens rest why h =
-      elim (bind_stopped ((readers k).specifiers scope tokens) (declaration_on k scope) why rest h) [
+      elim (bind_stopped ((parsers k).specifiers scope tokens) (declaration_on k scope) why rest h) [
         | inl x ↦ specifiers_stopped scope tokens rest why x
-        | inr x ↦ declaration_by_viable scope tokens x.mid rest x.value why (is_mark p.Semicolon (seen x.mid)) ((readers_sound k).specifiers scope tokens x.mid x.value x.one) x.two
+        | inr x ↦ declaration_by_viable scope tokens x.mid rest x.value why (is_mark p.Semicolon (next_body x.mid)) ((parsers_sound k).specifiers scope tokens x.mid x.value x.one) x.two
       ]

@@ -4,16 +4,16 @@ use borrow.Author.Tests.{leb-true}
 use Rattle.std.specs.List.{flat_map}
 use Rattle.critical_table.specs.declared.pos.Pos.{Pos}
 use Rattle.c_lexer.specs.declared.punct.Punct.TheVariants as p
-use Rattle.c_lexer.specs.declared.token.Body.TheVariants as body
+use Rattle.c_lexer.specs.declared.token.Body.TheVariants as lexeme
 use Rattle.c_lexer.specs.declared.token.Token.{Token}
 use Rattle.c_syntax.specs.declared.spelled.Spelled.{Spelled}
 use Rattle.c_syntax.specs.Begin.{Begins, BeginsInitializer, BeginsItem}
 use Rattle.c_syntax.specs.Height.{height}
 use Rattle.c_syntax.specs.HeightUnit.{initializer_height, item_height, items_height}
 use Rattle.c_syntax.specs.Levels.{assignment, conditional}
-use Rattle.c_syntax.specs.Reader.{Why, Unfit, TooDeep, Stopped, Reader, ◌>>=◌, give, deeper, skip, stop, choose, exactly, seen, place, tail}
+use Rattle.c_syntax.specs.Parser.{Why, Unfit, TooDeep, Stopped, Parser, ◌>>=◌, pure, deeper, skip, fail, choose, expect, next_body, place, tail}
 use Rattle.c_syntax.specs.ReadBody.{items, Initializers, initializers, listed_items, braces, initializer_at, member_item, index_item, item_at}
-use Rattle.c_syntax.specs.ReadSpecifier.{readers}
+use Rattle.c_syntax.specs.ReadSpecifier.{parsers}
 use Rattle.c_syntax.specs.ReadToken.{is_mark, name_of}
 use Rattle.c_syntax.specs.Scopes.{Scope, expr_adds}
 use Rattle.c_syntax.specs.ScopesUnit.{item_adds}
@@ -29,11 +29,11 @@ use Rattle.c_syntax.proofs.Contexts.{stopped, bind_stopped, given_stopped, close
 use Rattle.c_syntax.proofs.Found.{chosen, Spelt, joined, nothing_spelt, spelt_at, spelt_bare, spelt_mark}
 use Rattle.c_syntax.proofs.Sound.{spelt}
 use Rattle.c_syntax.proofs.SoundInitializer.{SoundInitializers, listed_items_sound, initializers_sound}
-use Rattle.c_syntax.proofs.SoundSpecifier.{readers_sound}
+use Rattle.c_syntax.proofs.SoundSpecifier.{parsers_sound}
 use Rattle.c_syntax.proofs.Started.{least_expr}
 use Rattle.c_syntax.proofs.TokenTests.{is_mark_is, token_is, name_is}
 use Rattle.c_syntax.proofs.Viable.{Holds}
-use Rattle.c_syntax.proofs.ViableDeclarator.{readers_viable}
+use Rattle.c_syntax.proofs.ViableDeclarator.{parsers_viable}
 
 pub record ViableInitializers (k : ℕ) (r : Initializers) : Type 0 where
   pub initializer : (scope : Scope) (tokens rest : List Token) (why : Why) → 0 < k → r.initializer scope tokens ≡ Stopped why rest → Holds (BeginsInitializer scope) k tokens why rest
@@ -123,22 +123,22 @@ at_index scope pos index is = record {
 }
 
 -- what stands behind the dot of a member
-abbrev named_item : Initializers → Scope → Pos → Option (List ℕ) → Reader Item
-named_item low scope pos None = stop Unfit
-named_item low scope pos (Some x) = skip (exactly (is_mark p.Assign) >>= λ _. low.initializer scope >>= λ value. give (ForMember pos x value))
+abbrev named_item : Initializers → Scope → Pos → Option (List ℕ) → Parser Item
+named_item low scope pos None = fail Unfit
+named_item low scope pos (Some x) = skip (expect (is_mark p.Assign) >>= λ _. low.initializer scope >>= λ value. pure (ForMember pos x value))
 
 module _ (k : ℕ) (low : Initializers) (sound : SoundInitializers k low) (viable : ViableInitializers k low) where
   module _ (scope : Scope) (tokens rest : List Token) (why : Why) where
     abbrev IsStopped : Why → List Token → Type 0
     IsStopped = Holds (BeginsInitializer scope) (suc k) tokens
 
-    braces_viable : 1 < k → seen tokens ≡ Some (body.Mark p.OpenBrace) → braces k low scope (place tokens) (tail tokens) ≡ Stopped why rest → IsStopped why rest
+    braces_viable : 1 < k → next_body tokens ≡ Some (lexeme.Mark p.OpenBrace) → braces k low scope (place tokens) (tail tokens) ≡ Stopped why rest → IsStopped why rest
     unfolding braces listed_items
     braces_viable some is h =
         let pos = place tokens in
-        let brace = spelt_at tokens (body.Mark p.OpenBrace) is in
-        elim (bind_stopped (listed_items k low scope (tail tokens)) (λ all. exactly (is_mark p.CloseBrace) >>= λ _. give (Braces pos (items all.0) all.1)) why rest h) [
-          | inl x ↦ listed_stopped (is_mark p.Comma) (is_mark p.CloseBrace) (give tt) low.item (λ s one. s ++ item_adds one) (λ s ts why rest. Holds (BeginsMore s) k ts why rest)
+        let brace = spelt_at tokens (lexeme.Mark p.OpenBrace) is in
+        elim (bind_stopped (listed_items k low scope (tail tokens)) (λ all. expect (is_mark p.CloseBrace) >>= λ _. pure (Braces pos (items all.0) all.1)) why rest h) [
+          | inl x ↦ listed_stopped (is_mark p.Comma) (is_mark p.CloseBrace) (pure tt) low.item (λ s one. s ++ item_adds one) (λ s ts why rest. Holds (BeginsMore s) k ts why rest)
               (λ ts rest why h. cc (h))
               (λ s ts rest why comma h. into (one_behind s) (omega arith) (spelt_mark p.Comma ts comma) (viable.item s (tail ts) rest why some h))
               (λ s ts mid rest one why comma h then. let y = sound.item s (tail ts) mid one h in into (more_behind s one y.fits) y.within (joined (spelt_mark p.Comma ts comma) (spelt y)) then)
@@ -152,20 +152,20 @@ module _ (k : ℕ) (low : Initializers) (sound : SoundInitializers k low) (viabl
               (record { node = Braces pos (items x.value.0) x.value.1; more = mark p.CloseBrace ∷ []; fits = all.fits; within = omega (arith, all.within); parts = refl }))
         ]
 
-    opens_viable : (b : Bool) → is_mark p.OpenBrace (seen tokens) ≡ true → nat_le 2 k ≡ b → choose b (skip (braces k low scope (place tokens))) (stop TooDeep) tokens ≡ Stopped why rest → IsStopped why rest
-    opens_viable true is some h = braces_viable (leb-true 2 k some) (is_mark_is p.OpenBrace (seen tokens) is) h
+    opens_viable : (b : Bool) → is_mark p.OpenBrace (next_body tokens) ≡ true → nat_le 2 k ≡ b → choose b (skip (braces k low scope (place tokens))) (fail TooDeep) tokens ≡ Stopped why rest → IsStopped why rest
+    opens_viable true is some h = braces_viable (leb-true 2 k some) (is_mark_is p.OpenBrace (next_body tokens) is) h
     opens_viable false is some h =
         stopped IsStopped h (too_deep_here (before_part (single scope) (suc k) least_expr tt (omega arith) (omega arith))
-        (subst (Begun (λ one. IsInitializer one scope) initializer_height spell_initializer (place tokens)) (sym (is_mark_is p.OpenBrace (seen tokens) is))
+        (subst (Begun (λ one. IsInitializer one scope) initializer_height spell_initializer (place tokens)) (sym (is_mark_is p.OpenBrace (next_body tokens) is))
         (whole_begins (mark_at (place tokens) p.OpenBrace) (Braces (place tokens) (MoreItems (Plain (Single least_expr)) NoItem) false) (spell least_expr ++ mark p.CloseBrace ∷ []) refl (tt, (tt, tt)) refl)))
 
     initializer_at_viable : initializer_at k low scope tokens ≡ Stopped why rest → IsStopped why rest
     unfolding initializer_at
     initializer_at_viable h =
-        elim (chosen (is_mark p.OpenBrace (seen tokens)) _ _ tokens (Stopped why rest) h) [
+        elim (chosen (is_mark p.OpenBrace (next_body tokens)) _ _ tokens (Stopped why rest) h) [
           | inl x ↦ opens_viable (nat_le 2 k) x.0 refl x.1
-          | inr x ↦ into (single scope) (omega arith) (nothing_spelt tokens) ((readers_viable (suc k)).expr scope assignment tokens rest why (omega arith) (omega arith)
-              (given_stopped ((readers (suc k)).expr scope assignment tokens) (λ e. Single e) why rest x.1))
+          | inr x ↦ into (single scope) (omega arith) (nothing_spelt tokens) ((parsers_viable (suc k)).expr scope assignment tokens rest why (omega arith) (omega arith)
+              (given_stopped ((parsers (suc k)).expr scope assignment tokens) (λ e. Single e) why rest x.1))
         ]
 
   module _ (scope : Scope) (tokens rest : List Token) (why : Why) (some : 0 < k) where
@@ -175,11 +175,11 @@ module _ (k : ℕ) (low : Initializers) (sound : SoundInitializers k low) (viabl
     abbrev pos : Pos
     pos = place tokens
 
-    named_viable : (o : Option (List ℕ)) → name_of (seen (tail tokens)) ≡ o → Spelt tokens (mark_at pos p.Dot ∷ []) (tail tokens) → named_item low scope pos o (tail tokens) ≡ Stopped why rest → ItemStopped why rest
+    named_viable : (o : Option (List ℕ)) → name_of (next_body (tail tokens)) ≡ o → Spelt tokens (mark_at pos p.Dot ∷ []) (tail tokens) → named_item low scope pos o (tail tokens) ≡ Stopped why rest → ItemStopped why rest
     named_viable None is dot h = stopped ItemStopped h (refused dot (fewer (mark_at pos p.Dot ∷ []) (name [] ∷ mark p.Assign ∷ []) (before_part (of_member scope pos []) k (Single least_expr) tt (omega (arith, some)) (omega arith))))
     named_viable (Some x) is dot h =
-        let front = joined dot (spelt_bare (tail tokens) (body.Name x) (token_is body.Name _ _ x (name_is (seen (tail tokens))) is)) in
-        mark_stopped p.Assign (low.initializer scope >>= λ value. give (ForMember pos x value)) ItemStopped (tail (tail tokens)) why rest h
+        let front = joined dot (spelt_bare (tail tokens) (lexeme.Name x) (token_is lexeme.Name _ _ x (name_is (next_body (tail tokens))) is)) in
+        mark_stopped p.Assign (low.initializer scope >>= λ value. pure (ForMember pos x value)) ItemStopped (tail (tail tokens)) why rest h
         (refused front (fewer (mark_at pos p.Dot ∷ name x ∷ []) (mark p.Assign ∷ []) (before_part (of_member scope pos x) k (Single least_expr) tt (omega (arith, some)) (omega arith))))
         (λ mid assigns h. into (of_member scope pos x) (omega arith) (joined front assigns)
         (viable.initializer scope mid rest why some (given_stopped (low.initializer scope mid) (λ value. ForMember pos x value) why rest h)))
@@ -187,13 +187,13 @@ module _ (k : ℕ) (low : Initializers) (sound : SoundInitializers k low) (viabl
     index_viable : Spelt tokens (mark_at pos p.OpenBracket ∷ []) (tail tokens) → index_item k low scope pos (tail tokens) ≡ Stopped why rest → ItemStopped why rest
     unfolding index_item
     index_viable bracket h =
-        let last = λ (index : Expr). low.initializer (scope ++ expr_adds index) >>= λ value. give (ForIndex pos index value) in
-        elim (bind_stopped ((readers k).expr scope conditional (tail tokens)) (λ index. exactly (is_mark p.CloseBracket) >>= λ _. exactly (is_mark p.Assign) >>= λ _. last index) why rest h) [
-          | inl x ↦ into (its_index scope pos) (omega (arith, some)) bracket ((readers_viable k).expr scope conditional (tail tokens) rest why (omega arith) some x)
+        let last = λ (index : Expr). low.initializer (scope ++ expr_adds index) >>= λ value. pure (ForIndex pos index value) in
+        elim (bind_stopped ((parsers k).expr scope conditional (tail tokens)) (λ index. expect (is_mark p.CloseBracket) >>= λ _. expect (is_mark p.Assign) >>= λ _. last index) why rest h) [
+          | inl x ↦ into (its_index scope pos) (omega (arith, some)) bracket ((parsers_viable k).expr scope conditional (tail tokens) rest why (omega arith) some x)
           | inr x ↦
-              let read = (readers_sound k).expr scope conditional (omega arith) (tail tokens) x.mid x.value x.one in
+              let read = (parsers_sound k).expr scope conditional (omega arith) (tail tokens) x.mid x.value x.one in
               let context = at_index scope pos x.value read.fits in
-              mark_stopped p.CloseBracket (exactly (is_mark p.Assign) >>= λ _. last x.value) ItemStopped x.mid why rest x.two
+              mark_stopped p.CloseBracket (expect (is_mark p.Assign) >>= λ _. last x.value) ItemStopped x.mid why rest x.two
               (refused_behind (its_index scope pos) (omega (arith, some)) bracket read)
               (λ closed_mid closed h. mark_stopped p.Assign (last x.value) ItemStopped closed_mid why rest h
               (refused (joined (joined bracket (spelt read)) closed)
@@ -202,7 +202,7 @@ module _ (k : ℕ) (low : Initializers) (sound : SoundInitializers k low) (viabl
               (viable.initializer (scope ++ expr_adds x.value) mid rest why some (given_stopped (low.initializer (scope ++ expr_adds x.value) mid) (λ value. ForIndex pos x.value value) why rest h))))
         ]
 
-    room : {A : Type 0} (r : Reader A) → deeper k r tokens ≡ Stopped why rest → r tokens ≡ Stopped why rest
+    room : {A : Type 0} (r : Parser A) → deeper k r tokens ≡ Stopped why rest → r tokens ≡ Stopped why rest
     room r h = by k some h
       where
         by : (m : ℕ) → 0 < m → deeper m r tokens ≡ Stopped why rest → r tokens ≡ Stopped why rest
@@ -212,10 +212,10 @@ module _ (k : ℕ) (low : Initializers) (sound : SoundInitializers k low) (viabl
     item_at_viable : item_at k low scope tokens ≡ Stopped why rest → ItemStopped why rest
     unfolding item_at member_item
     item_at_viable h =
-        elim (chosen (is_mark p.Dot (seen tokens)) _ _ tokens (Stopped why rest) h) [
-          | inl x ↦ named_viable (name_of (seen (tail tokens))) refl (spelt_at tokens (body.Mark p.Dot) (is_mark_is p.Dot (seen tokens) x.0)) (room (skip (member_item k low scope pos)) x.1)
-          | inr x ↦ elim (chosen (is_mark p.OpenBracket (seen tokens)) _ _ tokens (Stopped why rest) x.1) [
-            | inl y ↦ index_viable (spelt_at tokens (body.Mark p.OpenBracket) (is_mark_is p.OpenBracket (seen tokens) y.0)) (room (skip (index_item k low scope pos)) y.1)
+        elim (chosen (is_mark p.Dot (next_body tokens)) _ _ tokens (Stopped why rest) h) [
+          | inl x ↦ named_viable (name_of (next_body (tail tokens))) refl (spelt_at tokens (lexeme.Mark p.Dot) (is_mark_is p.Dot (next_body tokens) x.0)) (room (skip (member_item k low scope pos)) x.1)
+          | inr x ↦ elim (chosen (is_mark p.OpenBracket (next_body tokens)) _ _ tokens (Stopped why rest) x.1) [
+            | inl y ↦ index_viable (spelt_at tokens (lexeme.Mark p.OpenBracket) (is_mark_is p.OpenBracket (next_body tokens) y.0)) (room (skip (index_item k low scope pos)) y.1)
             | inr y ↦ into (plain scope) (omega arith) (nothing_spelt tokens) (viable.initializer scope tokens rest why some (given_stopped (low.initializer scope tokens) (λ value. Plain value) why rest y.1))
           ]
         ]

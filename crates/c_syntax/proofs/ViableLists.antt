@@ -6,7 +6,7 @@ use Rattle.c_lexer.specs.declared.token.Body.{Body}
 use Rattle.c_lexer.specs.declared.token.Token.{Token}
 use Rattle.c_syntax.specs.declared.spelled.Spelled.{Spelled}
 use Rattle.c_syntax.specs.Begin.{Begins}
-use Rattle.c_syntax.specs.Reader.{Why, Stopped, Found, Reader, listed, seen, tail}
+use Rattle.c_syntax.specs.Parser.{Why, Stopped, Found, Parser, comma_list, next_body, tail}
 use Rattle.c_syntax.specs.ReadToken.{is_mark}
 use Rattle.c_syntax.specs.Tokens.{mark, commas}
 use Rattle.c_syntax.proofs.Again.{behind_commas}
@@ -25,8 +25,8 @@ module _ {S A L : Type 0} (k : ℕ) (Fits : S → A → Type 0) (tall : A → �
     (fits_first : (s : S) (a : A) (all : L) → Fits s a → FitAll (next s a) all → FitFirst s (more a all))
     (tall_none : tall_all none ≡ 0) (tall_more : (a : A) (all : L) → tall_all (more a all) ≡ max (tall a) (tall_all all))
     (parts_none : parts none ≡ []) (parts_more : (a : A) (all : L) → parts (more a all) ≡ spelled a ∷ parts all)
-    (ends : Option Body → Bool) (ending : Reader (Unit {0})) (never : (tokens rest : List Token) (why : Why) → ending tokens ≡ Stopped why rest → ⊥)
-    (one : S → Reader A)
+    (ends : Option Body → Bool) (ending : Parser (Unit {0})) (never : (tokens rest : List Token) (why : Why) → ending tokens ≡ Stopped why rest → ⊥)
+    (one : S → Parser A)
     (sound : (s : S) → Sound (Fits s) tall spelled k (one s))
     (viable : (s : S) (tokens rest : List Token) (why : Why) → one s tokens ≡ Stopped why rest → Holds (Begins (Fits s) tall spelled) k tokens why rest) where
   abbrev First : S → ℕ → List Token → Type 0
@@ -74,14 +74,14 @@ module _ {S A L : Type 0} (k : ℕ) (Fits : S → A → Type 0) (tall : A → �
     spells = λ all. ap behind_commas (parts_more a all) ∙ nothing_behind (mark p.Comma ∷ spelled a) (behind_commas (parts all));
   }
 
-  behind_fails : (s : S) (tokens rest : List Token) (why : Why) → is_mark p.Comma (seen tokens) ≡ true → one s (tail tokens) ≡ Stopped why rest → Holds (Behind s) k tokens why rest
+  behind_fails : (s : S) (tokens rest : List Token) (why : Why) → is_mark p.Comma (next_body tokens) ≡ true → one s (tail tokens) ≡ Stopped why rest → Holds (Behind s) k tokens why rest
   behind_fails s tokens rest why comma h = into (behind_alone s) (omega arith) (spelt_mark p.Comma tokens comma) (viable s (tail tokens) rest why h)
 
-  behind_some : (s : S) (tokens mid rest : List Token) (a : A) (why : Why) → is_mark p.Comma (seen tokens) ≡ true → one s (tail tokens) ≡ Found a mid → Holds (Behind (next s a)) k mid why rest → Holds (Behind s) k tokens why rest
+  behind_some : (s : S) (tokens mid rest : List Token) (a : A) (why : Why) → is_mark p.Comma (next_body tokens) ≡ true → one s (tail tokens) ≡ Found a mid → Holds (Behind (next s a)) k mid why rest → Holds (Behind s) k tokens why rest
   behind_some s tokens mid rest a why comma h then =
       let x = sound s (tail tokens) mid a h in into (behind_others s a x.fits) x.within (joined (spelt_mark p.Comma tokens comma) (spelt x)) then
 
-  pub listed_viable : (s : S) (tokens rest : List Token) (why : Why) → listed (is_mark p.Comma) ends ending one next s tokens ≡ Stopped why rest → Holds (First s) k tokens why rest
+  pub listed_viable : (s : S) (tokens rest : List Token) (why : Why) → comma_list (is_mark p.Comma) ends ending one next s tokens ≡ Stopped why rest → Holds (First s) k tokens why rest
   listed_viable s tokens rest why h =
       listed_stopped (is_mark p.Comma) ends ending one next (λ s tokens why rest. Holds (Behind s) k tokens why rest) never behind_fails behind_some
       (λ why rest. Holds (First s) k tokens why rest) s tokens rest why h

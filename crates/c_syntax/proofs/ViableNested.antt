@@ -5,15 +5,15 @@ use Rattle.critical_table.specs.declared.pos.Pos.{Pos}
 use Rattle.c_lexer.specs.declared.punct.Punct.TheVariants as p
 use Rattle.c_lexer.specs.declared.token.Token.{Token}
 use Rattle.c_lexer.specs.declared.token.Body.{Body}
-use Rattle.c_lexer.specs.declared.token.Body.TheVariants as body
-use Rattle.c_syntax.specs.declared.form.Form.{Form}
-use Rattle.c_syntax.specs.declared.form.Form.TheVariants as form
+use Rattle.c_lexer.specs.declared.token.Body.TheVariants as lexeme
+use Rattle.c_syntax.specs.declared.declarator_form.DeclaratorForm.{DeclaratorForm}
+use Rattle.c_syntax.specs.declared.declarator_form.DeclaratorForm.TheVariants as form
 use Rattle.c_syntax.specs.declared.specifier.Qualifier.{Qualifier}
 use Rattle.c_syntax.specs.declared.spelled.Spelled.{Spelled}
 use Rattle.c_syntax.specs.Height.{declarator_height, parameters_height}
-use Rattle.c_syntax.specs.Reader.{Why, Unfit, TooDeep, Stopped, seen, place, tail, give, exactly, stop, ◌>>=◌}
-use Rattle.c_syntax.specs.ReadExpr.{Readers}
-use Rattle.c_syntax.specs.ReadDeclarator.{begins_declarator, omitted, no_declarator, qualifier_by, qualifier, qualifiers, listed_parameters, suffixes, nested, omitted_list, opened, pointer}
+use Rattle.c_syntax.specs.Parser.{Why, Unfit, TooDeep, Stopped, next_body, place, tail, pure, expect, fail, ◌>>=◌}
+use Rattle.c_syntax.specs.ReadExpr.{Parsers}
+use Rattle.c_syntax.specs.ReadDeclarator.{begins_declarator, omission, no_declarator, qualifier_by, qualifier, qualifiers, listed_parameters, suffixes, nested_declarator, omitted_list, behind_paren, pointer}
 use Rattle.c_syntax.specs.ReadToken.{is_mark, begins_type, qualifier_of}
 use Rattle.c_syntax.specs.Scopes.{Scope}
 use Rattle.c_syntax.specs.Spelling.{spell_qualifiers, spell_declarator, spelled_parameters}
@@ -36,47 +36,47 @@ use Rattle.c_syntax.proofs.ViableSuffix.{may_end, listed_parameters_viable, suff
 
 -- ---- the least declarator of a form, and the least that has a token
 
-abbrev pub CompletedForm : Form → Scope → ℕ → List Spelled → Type 0
+abbrev pub CompletedForm : DeclaratorForm → Scope → ℕ → List Spelled → Type 0
 CompletedForm shape scope = Completed (λ one. IsDeclarator one scope × HasForm shape scope one) declarator_height spell_declarator
 
-abbrev pub FormBegun : Form → Scope → Pos → Option Body → Type 0
+abbrev pub FormBegun : DeclaratorForm → Scope → Pos → Option Body → Type 0
 FormBegun shape scope = Begun (λ one. IsDeclarator one scope × HasForm shape scope one) declarator_height spell_declarator
 
-abbrev least : Form → Declarator
+abbrev least : DeclaratorForm → Declarator
 least form.Named = Name origin []
 least form.Abstract = Omitted
 least form.Parameter = Omitted
 
-least_fits : (shape : Form) (scope : Scope) → IsDeclarator (least shape) scope × HasForm shape scope (least shape)
+least_fits : (shape : DeclaratorForm) (scope : Scope) → IsDeclarator (least shape) scope × HasForm shape scope (least shape)
 least_fits form.Named scope = (tt, refl)
 least_fits form.Abstract scope = (tt, refl)
 least_fits form.Parameter scope = (tt, tt)
 
-least_height : (shape : Form) → declarator_height (least shape) ≤ 1
+least_height : (shape : DeclaratorForm) → declarator_height (least shape) ≤ 1
 least_height form.Named = omega arith
 least_height form.Abstract = omega arith
 least_height form.Parameter = omega arith
 
-pub nothing_read : (shape : Form) (scope : Scope) (k : ℕ) → CompletedForm shape scope (suc k) []
+pub nothing_read : (shape : DeclaratorForm) (scope : Scope) (k : ℕ) → CompletedForm shape scope (suc k) []
 nothing_read shape scope k = record { node = least shape; more = spell_declarator (least shape); fits = least_fits shape scope; within = omega (arith, least_height shape); parts = refl }
 
-abbrev in_paren : Form → Declarator
+abbrev in_paren : DeclaratorForm → Declarator
 in_paren form.Named = Name origin []
 in_paren form.Abstract = PointerTo [] Omitted
 in_paren form.Parameter = PointerTo [] Omitted
 
-in_paren_fits : (shape : Form) (scope : Scope) → IsDeclarator (DParen (in_paren shape)) scope × HasForm shape scope (DParen (in_paren shape))
+in_paren_fits : (shape : DeclaratorForm) (scope : Scope) → IsDeclarator (DParen (in_paren shape)) scope × HasForm shape scope (DParen (in_paren shape))
 in_paren_fits form.Named scope = ((tt, tt), refl)
 in_paren_fits form.Abstract scope = ((tt, tt), refl)
 in_paren_fits form.Parameter scope = ((tt, tt), (tt, tt))
 
-in_paren_height : (shape : Form) → declarator_height (in_paren shape) ≤ 1
+in_paren_height : (shape : DeclaratorForm) → declarator_height (in_paren shape) ≤ 1
 in_paren_height form.Named = omega arith
 in_paren_height form.Abstract = omega arith
 in_paren_height form.Parameter = omega arith
 
 -- an opening parenthesis
-paren_read : (shape : Form) (scope : Scope) (k : ℕ) → 0 < k → CompletedForm shape scope (suc k) (mark p.OpenParen ∷ [])
+paren_read : (shape : DeclaratorForm) (scope : Scope) (k : ℕ) → 0 < k → CompletedForm shape scope (suc k) (mark p.OpenParen ∷ [])
 paren_read shape scope k some = record {
   node = DParen (in_paren shape);
   more = spell_declarator (in_paren shape) ++ mark p.CloseParen ∷ [];
@@ -88,27 +88,27 @@ paren_read shape scope k some = record {
 -- ---- a token that begins a declarator
 
 module _ (scope : Scope) (pos : Pos) where
-  pub declarator_begun : (shape : Form) (o : Option Body) → begins_declarator shape o ≡ true → FormBegun shape scope pos o
-  declarator_begun shape (Some (body.Mark p.Star)) h =
+  pub declarator_begun : (shape : DeclaratorForm) (o : Option Body) → begins_declarator shape o ≡ true → FormBegun shape scope pos o
+  declarator_begun shape (Some (lexeme.Mark p.Star)) h =
       let fits = least_fits shape scope in whole_begins (mark p.Star) (PointerTo [] (least shape)) (spell_declarator (least shape)) tt (fits.0, has_pointer shape scope [] (least shape) fits.1) refl
-  declarator_begun shape (Some (body.Mark p.OpenParen)) h = whole_begins (mark p.OpenParen) (DParen (in_paren shape)) (spell_declarator (in_paren shape) ++ mark p.CloseParen ∷ []) tt (in_paren_fits shape scope) refl
-  declarator_begun form.Abstract (Some (body.Mark p.OpenBracket)) h = whole_begins (mark p.OpenBracket) (ArrayOf Omitted Without) (mark p.CloseBracket ∷ []) tt ((tt, tt, tt), refl) refl
-  declarator_begun form.Parameter (Some (body.Mark p.OpenBracket)) h = whole_begins (mark p.OpenBracket) (ArrayOf Omitted Without) (mark p.CloseBracket ∷ []) tt ((tt, tt, tt), tt) refl
-  declarator_begun form.Named (Some (body.Name x)) h = whole_begins (name_at pos x) (Name pos x) [] refl (tt, refl) refl
-  declarator_begun form.Parameter (Some (body.Name x)) h = whole_begins (name_at pos x) (Name pos x) [] refl (tt, tt) refl
+  declarator_begun shape (Some (lexeme.Mark p.OpenParen)) h = whole_begins (mark p.OpenParen) (DParen (in_paren shape)) (spell_declarator (in_paren shape) ++ mark p.CloseParen ∷ []) tt (in_paren_fits shape scope) refl
+  declarator_begun form.Abstract (Some (lexeme.Mark p.OpenBracket)) h = whole_begins (mark p.OpenBracket) (ArrayOf Omitted Without) (mark p.CloseBracket ∷ []) tt ((tt, tt, tt), refl) refl
+  declarator_begun form.Parameter (Some (lexeme.Mark p.OpenBracket)) h = whole_begins (mark p.OpenBracket) (ArrayOf Omitted Without) (mark p.CloseBracket ∷ []) tt ((tt, tt, tt), tt) refl
+  declarator_begun form.Named (Some (lexeme.Name x)) h = whole_begins (name_at pos x) (Name pos x) [] refl (tt, refl) refl
+  declarator_begun form.Parameter (Some (lexeme.Name x)) h = whole_begins (name_at pos x) (Name pos x) [] refl (tt, tt) refl
   declarator_begun shape _ h = absurd (cc (h))
 
-pub omitted_viable : (shape : Form) (scope : Scope) (most : ℕ) (tokens rest : List Token) (why : Why) → CompletedForm shape scope most [] → omitted shape tokens ≡ Stopped why rest → Holds (BeginsForm shape scope) most tokens why rest
-omitted_viable form.Named scope most tokens rest why c h = stopped (Holds (BeginsForm form.Named scope) most tokens) h (refused (nothing_spelt tokens) c)
-omitted_viable form.Abstract scope most tokens rest why c h = absurd (cc (h))
-omitted_viable form.Parameter scope most tokens rest why c h = absurd (cc (h))
+pub omission_viable : (shape : DeclaratorForm) (scope : Scope) (most : ℕ) (tokens rest : List Token) (why : Why) → CompletedForm shape scope most [] → omission shape tokens ≡ Stopped why rest → Holds (BeginsForm shape scope) most tokens why rest
+omission_viable form.Named scope most tokens rest why c h = stopped (Holds (BeginsForm form.Named scope) most tokens) h (refused (nothing_spelt tokens) c)
+omission_viable form.Abstract scope most tokens rest why c h = absurd (cc (h))
+omission_viable form.Parameter scope most tokens rest why c h = absurd (cc (h))
 
-no_declarator_viable : (shape : Form) (scope : Scope) (most : ℕ) (tokens rest : List Token) (why : Why) → CompletedForm shape scope most [] → no_declarator shape tokens ≡ Stopped why rest → Holds (BeginsForm shape scope) most tokens why rest
+no_declarator_viable : (shape : DeclaratorForm) (scope : Scope) (most : ℕ) (tokens rest : List Token) (why : Why) → CompletedForm shape scope most [] → no_declarator shape tokens ≡ Stopped why rest → Holds (BeginsForm shape scope) most tokens why rest
 unfolding no_declarator
 no_declarator_viable shape scope most tokens rest why c h =
-    elim (chosen (begins_declarator shape (seen tokens)) (stop TooDeep) (omitted shape) tokens (Stopped why rest) h) [
-      | inl x ↦ stopped (Holds (BeginsForm shape scope) most tokens) x.1 (too_deep_here c (declarator_begun scope (place tokens) shape (seen tokens) x.0))
-      | inr x ↦ omitted_viable shape scope most tokens rest why c x.1
+    elim (chosen (begins_declarator shape (next_body tokens)) (fail TooDeep) (omission shape) tokens (Stopped why rest) h) [
+      | inl x ↦ stopped (Holds (BeginsForm shape scope) most tokens) x.1 (too_deep_here c (declarator_begun scope (place tokens) shape (next_body tokens) x.0))
+      | inr x ↦ omission_viable shape scope most tokens rest why c x.1
     ]
 
 -- ---- qualifiers behind a star never stop
@@ -121,11 +121,11 @@ qualifiers_stop : (scope : Scope) (tokens rest : List Token) (why : Why) → qua
 unfolding qualifiers qualifier
 qualifiers_stop scope tokens rest why h =
     many_stopped (λ s o. is_some (qualifier_of o)) (λ s. qualifier) (λ s word. s) (λ s tokens why rest. ⊥)
-    (λ s tokens rest why goes h. qualifier_stops (qualifier_of (seen tokens)) tokens rest why goes h) (λ s tokens mid rest a why goes h then. then) scope tokens rest why h
+    (λ s tokens rest why goes h. qualifier_stops (qualifier_of (next_body tokens)) tokens rest why goes h) (λ s tokens mid rest a why goes h then. then) scope tokens rest why h
 
 -- ---- what is known of a declarator in parentheses by its first token
 
-first_no_type : (scope : Scope) (behind : List Token) (inner : Declarator) (first : Spelled) (more : List Spelled) → begins_type scope (seen behind) ≡ false → seen behind ≡ Some first.body → spell_declarator inner ≡ first ∷ more
+first_no_type : (scope : Scope) (behind : List Token) (inner : Declarator) (first : Spelled) (more : List Spelled) → begins_type scope (next_body behind) ≡ false → next_body behind ≡ Some first.body → spell_declarator inner ≡ first ∷ more
     → IsNoType scope (first_name inner)
 first_no_type scope behind inner first more none is same = by (first_name inner) refl
   where
@@ -139,14 +139,14 @@ begins_token : (inner : Declarator) (first : Spelled) (more : List Spelled) → 
 begins_token Omitted first more same = absurd (cc (same))
 begins_token _ first more same = tt
 
-paren_form : (shape : Form) (scope : Scope) (behind : List Token) (inner : Declarator) (first : Spelled) (more : List Spelled) → Opens shape scope behind → seen behind ≡ Some first.body → spell_declarator inner ≡ first ∷ more
+paren_form : (shape : DeclaratorForm) (scope : Scope) (behind : List Token) (inner : Declarator) (first : Spelled) (more : List Spelled) → Opens shape scope behind → next_body behind ≡ Some first.body → spell_declarator inner ≡ first ∷ more
     → IsDeclarator inner scope × HasForm shape scope inner → IsDeclarator (DParen inner) scope × HasForm shape scope (DParen inner)
 paren_form form.Named scope behind inner first more opens is same fits = ((begins_token inner first more same, fits.0), fits.1)
 paren_form form.Abstract scope behind inner first more opens is same fits = ((begins_token inner first more same, fits.0), fits.1)
 paren_form form.Parameter scope behind inner first more opens is same fits =
     ((begins_token inner first more same, fits.0), (first_no_type scope behind inner first more opens.1 is same, fits.1))
 
-paren_begins_more : (shape : Form) (scope : Scope) (behind : List Token) → Opens shape scope behind → (j : ℕ) (before tokens after : List Token) → Match before (mark p.OpenParen ∷ []) → 1 ≤ j → behind ≡ tokens ++ after → BeginsForm shape scope j tokens
+paren_begins_more : (shape : DeclaratorForm) (scope : Scope) (behind : List Token) → Opens shape scope behind → (j : ℕ) (before tokens after : List Token) → Match before (mark p.OpenParen ∷ []) → 1 ≤ j → behind ≡ tokens ++ after → BeginsForm shape scope j tokens
     → BeginsForm shape scope (suc j) (before ++ tokens)
 paren_begins_more shape scope behind opens j before tokens after match some parts b = by tokens b.front parts b.match b.parts
   where
@@ -166,13 +166,13 @@ paren_begins_more shape scope behind opens j before tokens after match some part
       node = DParen b.node;
       front = mark p.OpenParen ∷ first ∷ front;
       more = b.more ++ mark p.CloseParen ∷ [];
-      fits = paren_form shape scope behind b.node first (front ++ b.more) opens (ap seen parts ∙ ap (λ b. Some b) one.0) same b.fits;
+      fits = paren_form shape scope behind b.node first (front ++ b.more) opens (ap next_body parts ∙ ap (λ b. Some b) one.0) same b.fits;
       within = omega (arith, b.within);
       parts = ap (λ z. mark p.OpenParen ∷ z ++ mark p.CloseParen ∷ []) same ∙ simp append_assoc;
       match = match_append before (token ∷ tokens) (mark p.OpenParen ∷ []) (first ∷ front) match one;
     }
 
-into_paren : (shape : Form) (scope : Scope) (k : ℕ) (tokens behind rest : List Token) (why : Why) → 0 < k → Spelt tokens (mark p.OpenParen ∷ []) behind → Opens shape scope behind → Holds (BeginsForm shape scope) k behind why rest
+into_paren : (shape : DeclaratorForm) (scope : Scope) (k : ℕ) (tokens behind rest : List Token) (why : Why) → 0 < k → Spelt tokens (mark p.OpenParen ∷ []) behind → Opens shape scope behind → Holds (BeginsForm shape scope) k behind why rest
     → Holds (BeginsForm shape scope) (suc k) tokens why rest
 into_paren shape scope k tokens behind rest why some spelt opens x =
     let b = before_of spelt in
@@ -194,16 +194,16 @@ into_paren shape scope k tokens behind rest why some spelt opens x =
           );
     }
 
-module _ (k : ℕ) (low : Readers) (sound : AllSound k low) (viable : AllViable k low) where
+module _ (k : ℕ) (low : Parsers) (sound : AllSound k low) (viable : AllViable k low) where
   -- where the identifier may be omitted, whatever height is left
-  pub omitting_viable : (shape : Form) (scope : Scope) → CompletedForm shape scope 0 [] → (tokens rest : List Token) (why : Why) → low.declarator shape scope tokens ≡ Stopped why rest → Holds (BeginsForm shape scope) k tokens why rest
+  pub omitting_viable : (shape : DeclaratorForm) (scope : Scope) → CompletedForm shape scope 0 [] → (tokens rest : List Token) (why : Why) → low.declarator shape scope tokens ≡ Stopped why rest → Holds (BeginsForm shape scope) k tokens why rest
   omitting_viable shape scope c tokens rest why h = by k refl
     where
       by : (j : ℕ) → k ≡ j → Holds (BeginsForm shape scope) k tokens why rest
       by zero none = subst (λ j. Holds (BeginsForm shape scope) j tokens why rest) (sym none) (no_declarator_viable shape scope 0 tokens rest why c (sym (viable.lowest none shape scope tokens) ∙ h))
       by (suc j) some = viable.declarator shape scope tokens rest why (omega (arith, some)) h
 
-  module _ (shape : Form) (scope : Scope) (tokens rest : List Token) (why : Why) where
+  module _ (shape : DeclaratorForm) (scope : Scope) (tokens rest : List Token) (why : Why) where
     abbrev Stops : Why → List Token → Type 0
     Stops = Holds (BeginsForm shape scope) (suc k) tokens
 
@@ -219,13 +219,13 @@ module _ (k : ℕ) (low : Readers) (sound : AllSound k low) (viable : AllViable 
       spells = λ one. nothing_behind (mark p.Star ∷ spell_qualifiers words) (spell_declarator one);
     }
 
-    pub pointer_viable : ((tokens : List Token) → low.declarator shape scope tokens ≡ Stopped why rest → Holds (BeginsForm shape scope) k tokens why rest) → seen tokens ≡ Some (body.Mark p.Star)
+    pub pointer_viable : ((tokens : List Token) → low.declarator shape scope tokens ≡ Stopped why rest → Holds (BeginsForm shape scope) k tokens why rest) → next_body tokens ≡ Some (lexeme.Mark p.Star)
         → pointer k low shape scope (tail tokens) ≡ Stopped why rest → Stops why rest
     unfolding pointer
     pointer_viable inner is h =
-        elim (bind_stopped (qualifiers scope (tail tokens)) (λ words. low.declarator shape scope >>= λ inner. give (PointerTo words inner)) why rest h) [
+        elim (bind_stopped (qualifiers scope (tail tokens)) (λ words. low.declarator shape scope >>= λ inner. pure (PointerTo words inner)) why rest h) [
           | inl x ↦ absurd (qualifiers_stop scope (tail tokens) rest why x)
-          | inr x ↦ into (in_pointer x.value) (omega arith) (joined (spelt_bare tokens (body.Mark p.Star) is) (qualifiers_sound scope (tail tokens) x.mid x.value x.one))
+          | inr x ↦ into (in_pointer x.value) (omega arith) (joined (spelt_bare tokens (lexeme.Mark p.Star) is) (qualifiers_sound scope (tail tokens) x.mid x.value x.one))
               (inner x.mid (given_stopped (low.declarator shape scope x.mid) (λ inner. PointerTo x.value inner) why rest x.two))
         ]
 
@@ -245,11 +245,11 @@ module _ (k : ℕ) (low : Readers) (sound : AllSound k low) (viable : AllViable 
           parts = ap (λ z. mark p.OpenParen ∷ z ++ mark p.CloseParen ∷ []) same;
         }
 
-    pub nested_viable : 0 < k → seen tokens ≡ Some (body.Mark p.OpenParen) → Opens shape scope (tail tokens) → nested k low shape scope (tail tokens) ≡ Stopped why rest → Stops why rest
-    unfolding nested
-    nested_viable some is opens h =
-        let paren = spelt_bare tokens (body.Mark p.OpenParen) is in
-        elim (bind_stopped (low.declarator shape scope (tail tokens)) (λ inner. exactly (is_mark p.CloseParen) >>= λ _. suffixes k low scope (DParen inner)) why rest h) [
+    pub nested_declarator_viable : 0 < k → next_body tokens ≡ Some (lexeme.Mark p.OpenParen) → Opens shape scope (tail tokens) → nested_declarator k low shape scope (tail tokens) ≡ Stopped why rest → Stops why rest
+    unfolding nested_declarator
+    nested_declarator_viable some is opens h =
+        let paren = spelt_bare tokens (lexeme.Mark p.OpenParen) is in
+        elim (bind_stopped (low.declarator shape scope (tail tokens)) (λ inner. expect (is_mark p.CloseParen) >>= λ _. suffixes k low scope (DParen inner)) why rest h) [
           | inl x ↦ into_paren shape scope k tokens (tail tokens) rest why some paren opens (viable.declarator shape scope (tail tokens) rest why some x)
           | inr x ↦
               (let y = sound.declarator shape scope (tail tokens) x.mid x.value x.one in
@@ -266,9 +266,9 @@ module _ (k : ℕ) (low : Readers) (sound : AllSound k low) (viable : AllViable 
 
     -- ---- parentheses where the identifier may be omitted
 
-    module _ (omits : (all : Parameters) (variadic : Bool) → HasForm shape scope (FunctionOf Omitted all variadic)) (is : seen tokens ≡ Some (body.Mark p.OpenParen)) where
+    module _ (omits : (all : Parameters) (variadic : Bool) → HasForm shape scope (FunctionOf Omitted all variadic)) (is : next_body tokens ≡ Some (lexeme.Mark p.OpenParen)) where
       paren_spelt : Spelt tokens (mark p.OpenParen ∷ []) (tail tokens)
-      paren_spelt = spelt_bare tokens (body.Mark p.OpenParen) is
+      paren_spelt = spelt_bare tokens (lexeme.Mark p.OpenParen) is
 
       in_omitted : Context (λ all. AreParameters all scope) parameters_height (λ all. commas (spelled_parameters all)) (λ one. IsDeclarator one scope × HasForm shape scope one) declarator_height spell_declarator suc 0 (mark p.OpenParen ∷ [])
       in_omitted = record {
@@ -282,9 +282,9 @@ module _ (k : ℕ) (low : Readers) (sound : AllSound k low) (viable : AllViable 
       empty_list : CompletedForm shape scope (suc k) (mark p.OpenParen ∷ [])
       empty_list = record { node = FunctionOf Omitted NoParameter false; more = mark p.CloseParen ∷ []; fits = ((tt, tt, tt, tt), omits NoParameter false); within = omega arith; parts = refl }
 
-      list_deep : begins_type scope (seen (tail tokens)) ≡ true → Stops TooDeep (tail tokens)
+      list_deep : begins_type scope (next_body (tail tokens)) ≡ true → Stops TooDeep (tail tokens)
       list_deep begins =
-          let x = type_begun scope (place (tail tokens)) (seen (tail tokens)) begins in
+          let x = type_begun scope (place (tail tokens)) (next_body (tail tokens)) begins in
           too_deep {high = suc (suc x.high)} paren_spelt (spelt_next (tail tokens) x) empty_list (record {
             node = FunctionOf Omitted (MoreParameters (Param x.completed.node Omitted) NoParameter) false;
             more = x.completed.more ++ mark p.CloseParen ∷ [];
@@ -296,7 +296,7 @@ module _ (k : ℕ) (low : Readers) (sound : AllSound k low) (viable : AllViable 
       omitted_list_viable : 0 < k → omitted_list k low scope (tail tokens) ≡ Stopped why rest → Stops why rest
       unfolding omitted_list
       omitted_list_viable some h =
-          elim (bind_stopped (listed_parameters k low scope (tail tokens)) (λ all. exactly (is_mark p.CloseParen) >>= λ _. suffixes k low scope (FunctionOf Omitted (parameters all.0) all.1)) why rest h) [
+          elim (bind_stopped (listed_parameters k low scope (tail tokens)) (λ all. expect (is_mark p.CloseParen) >>= λ _. suffixes k low scope (FunctionOf Omitted (parameters all.0) all.1)) why rest h) [
             | inl x ↦ into in_omitted (omega arith) paren_spelt (listed_parameters_viable k low sound viable some scope (tail tokens) rest why x)
             | inr x ↦
                 (let y = listed_parameters_sound k low sound scope (tail tokens) x.mid x.value x.one in
@@ -315,9 +315,9 @@ module _ (k : ℕ) (low : Readers) (sound : AllSound k low) (viable : AllViable 
                 }) tt g))
           ]
 
-      nested_deep : Opens shape scope (tail tokens) → begins_declarator shape (seen (tail tokens)) ≡ true → Stops TooDeep (tail tokens)
-      nested_deep opens begins =
-          let x = declarator_begun scope (place (tail tokens)) shape (seen (tail tokens)) begins in
+      nested_declarator_deep : Opens shape scope (tail tokens) → begins_declarator shape (next_body (tail tokens)) ≡ true → Stops TooDeep (tail tokens)
+      nested_declarator_deep opens begins =
+          let x = declarator_begun scope (place (tail tokens)) shape (next_body (tail tokens)) begins in
           too_deep {high = suc x.high} paren_spelt (spelt_next (tail tokens) x) empty_list (record {
             node = DParen x.completed.node;
             more = x.completed.more ++ mark p.CloseParen ∷ [];
@@ -326,19 +326,19 @@ module _ (k : ℕ) (low : Readers) (sound : AllSound k low) (viable : AllViable 
             parts = ap (λ z. mark p.OpenParen ∷ z ++ mark p.CloseParen ∷ []) x.completed.parts ∙ simp append_assoc;
           })
 
-      pub opened_viable : (is_mark p.CloseParen (seen (tail tokens)) ≡ false → begins_type scope (seen (tail tokens)) ≡ false → Opens shape scope (tail tokens)) → opened k low shape scope (tail tokens) ≡ Stopped why rest → Stops why rest
-      unfolding opened
-      opened_viable opens h =
-          elim (chosen (is_mark p.CloseParen (seen (tail tokens))) _ _ (tail tokens) (Stopped why rest) h) [
+      pub behind_paren_viable : (is_mark p.CloseParen (next_body (tail tokens)) ≡ false → begins_type scope (next_body (tail tokens)) ≡ false → Opens shape scope (tail tokens)) → behind_paren k low shape scope (tail tokens) ≡ Stopped why rest → Stops why rest
+      unfolding behind_paren
+      behind_paren_viable opens h =
+          elim (chosen (is_mark p.CloseParen (next_body (tail tokens))) _ _ (tail tokens) (Stopped why rest) h) [
             | inl x ↦ suffixes_viable k low sound viable shape scope tokens (tail (tail tokens)) rest why (FunctionOf Omitted NoParameter false) (record {
               spells = (joined paren_spelt (spelt_mark p.CloseParen (tail tokens) x.0)).takes;
               fits = (tt, (tt, tt, tt, tt), omits NoParameter false);
               within = omega arith;
             }) tt x.1
-            | inr x ↦ elim (chosen (begins_type scope (seen (tail tokens))) _ _ (tail tokens) (Stopped why rest) x.1) [
+            | inr x ↦ elim (chosen (begins_type scope (next_body (tail tokens))) _ _ (tail tokens) (Stopped why rest) x.1) [
               | inl y ↦ deeper_stopped Stops k (omitted_list k low scope) (tail tokens) why rest y.1 (list_deep y.0) omitted_list_viable
-              | inr y ↦ elim (chosen (begins_declarator shape (seen (tail tokens))) _ (stop Unfit) (tail tokens) (Stopped why rest) y.1) [
-                | inl z ↦ deeper_stopped Stops k (nested k low shape scope) (tail tokens) why rest z.1 (nested_deep (opens x.0 y.0) z.0) (λ some g. nested_viable some is (opens x.0 y.0) g)
+              | inr y ↦ elim (chosen (begins_declarator shape (next_body (tail tokens))) _ (fail Unfit) (tail tokens) (Stopped why rest) y.1) [
+                | inl z ↦ deeper_stopped Stops k (nested_declarator k low shape scope) (tail tokens) why rest z.1 (nested_declarator_deep (opens x.0 y.0) z.0) (λ some g. nested_declarator_viable some is (opens x.0 y.0) g)
                 | inr z ↦ stopped Stops z.1 (refused paren_spelt empty_list)
               ]
             ]

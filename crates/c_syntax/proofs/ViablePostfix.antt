@@ -7,7 +7,7 @@ use Rattle.c_lexer.specs.declared.punct.Punct.{Punct}
 use Rattle.c_lexer.specs.declared.punct.Punct.TheVariants as p
 use Rattle.c_lexer.specs.declared.token.Token.{Token}
 use Rattle.c_lexer.specs.declared.token.Body.{Body}
-use Rattle.c_lexer.specs.declared.token.Body.TheVariants as body
+use Rattle.c_lexer.specs.declared.token.Body.TheVariants as lexeme
 use Rattle.c_syntax.specs.declared.operator.Access.{Access}
 use Rattle.c_syntax.specs.declared.operator.Access.TheVariants as access
 use Rattle.c_syntax.specs.declared.operator.Postfix.{Postfix}
@@ -17,13 +17,13 @@ use Rattle.c_syntax.specs.Begin.{Begins, BeginsExpr}
 use Rattle.c_syntax.specs.Height.{height, exprs_height}
 use Rattle.c_syntax.specs.Levels.{expression, assignment, postfix}
 use Rattle.c_syntax.specs.Operators.{access_token}
-use Rattle.c_syntax.specs.Reader.{Why, TooDeep, Stopped, seen, place, tail, give, exactly, ◌>>=◌}
-use Rattle.c_syntax.specs.ReadExpr.{Readers, named, goes_postfix, listed_arguments, arguments_by, arguments, index, call, access_name, step_by_one, postfix_by, postfix_on, postfixes}
+use Rattle.c_syntax.specs.Parser.{Why, TooDeep, Stopped, next_body, place, tail, pure, expect, ◌>>=◌}
+use Rattle.c_syntax.specs.ReadExpr.{Parsers, with_name, goes_postfix, listed_arguments, arguments_by, arguments, index, call, access_name, step_by_one, postfix_by, postfix_on, postfixes}
 use Rattle.c_syntax.specs.ReadToken.{is_mark, name_of}
 use Rattle.c_syntax.specs.Scopes.{Scope, expr_adds}
 use Rattle.c_syntax.specs.Spelling.{spell, spelled_arguments}
 use Rattle.c_syntax.specs.Tokens.{mark, mark_at, name, commas}
-use Rattle.c_syntax.specs.Tree.{Expr, Index, Call, Member, Postfix', Exprs, NoExpr, MoreExprs}
+use Rattle.c_syntax.specs.Tree.{Expr, Index, Call, Member, PostfixOp, Exprs, NoExpr, MoreExprs}
 use Rattle.c_syntax.specs.View.{exprs}
 use Rattle.c_syntax.specs.WellFormed.{IsExpr, AreArguments}
 use Rattle.c_syntax.proofs.Completions.{read_completed}
@@ -93,11 +93,11 @@ behind_first scope first fits = record {
   spells = λ all. simp (append_assoc, append-nil) refl;
 }
 
-module _ (k : ℕ) (low : Readers) (sound : AllSound k low) (viable : AllViable k low) where
+module _ (k : ℕ) (low : Parsers) (sound : AllSound k low) (viable : AllViable k low) where
   listed_viable : 0 < k → (scope : Scope) (tokens rest : List Token) (why : Why) → listed_arguments k low scope tokens ≡ Stopped why rest → Holds (BeginsArguments scope) k tokens why rest
   unfolding listed_arguments
   listed_viable some scope tokens rest why h =
-      listed_stopped (is_mark p.Comma) (λ o. false) (give tt) (λ s. low.expr s assignment) (λ s e. s ++ expr_adds e) (λ s. Holds (BeginsBehind s) k)
+      listed_stopped (is_mark p.Comma) (λ o. false) (pure tt) (λ s. low.expr s assignment) (λ s e. s ++ expr_adds e) (λ s. Holds (BeginsBehind s) k)
       (λ tokens rest why h. cc (h))
       (λ s tokens rest why comma h. into (as_last s) (omega arith) (spelt_mark p.Comma tokens comma) (viable.expr s assignment (tail tokens) rest why (omega arith) some h))
       (λ s tokens mid rest e why comma h then.
@@ -110,12 +110,12 @@ module _ (k : ℕ) (low : Readers) (sound : AllSound k low) (viable : AllViable 
       into (behind_first scope e x.fits) x.within (spelt x) then)
 
   arguments_viable : 0 < k → (scope : Scope) (o : Option Body) (tokens rest : List Token) (why : Why) → arguments_by k low scope o tokens ≡ Stopped why rest → Holds (BeginsArguments scope) k tokens why rest
-  arguments_viable some scope (Some (body.Mark p.CloseParen)) tokens rest why h = absurd (cc (h))
+  arguments_viable some scope (Some (lexeme.Mark p.CloseParen)) tokens rest why h = absurd (cc (h))
   arguments_viable some scope o tokens rest why h = closed_viable scope tokens rest why h
     where
-      closed_viable : (scope : Scope) (tokens rest : List Token) (why : Why) → (listed_arguments k low scope >>= λ all. exactly (is_mark p.CloseParen) >>= λ _. give (exprs all.0)) tokens ≡ Stopped why rest → Holds (BeginsArguments scope) k tokens why rest
+      closed_viable : (scope : Scope) (tokens rest : List Token) (why : Why) → (listed_arguments k low scope >>= λ all. expect (is_mark p.CloseParen) >>= λ _. pure (exprs all.0)) tokens ≡ Stopped why rest → Holds (BeginsArguments scope) k tokens why rest
       closed_viable scope tokens rest why h =
-          elim (bind_stopped (listed_arguments k low scope tokens) (λ all. exactly (is_mark p.CloseParen) >>= λ _. give (exprs all.0)) why rest h) [
+          elim (bind_stopped (listed_arguments k low scope tokens) (λ all. expect (is_mark p.CloseParen) >>= λ _. pure (exprs all.0)) why rest h) [
             | inl x ↦ listed_viable some scope tokens rest why x
             | inr x ↦
                 (let y = listed_arguments_sound k low sound scope tokens x.mid x.value x.one in
@@ -148,28 +148,28 @@ in_call scope pos left fits = record {
   spells = λ all. simp (append_assoc, append-nil) refl;
 }
 
-module _ (k : ℕ) (low : Readers) (sound : AllSound k low) (viable : AllViable k low) where
+module _ (k : ℕ) (low : Parsers) (sound : AllSound k low) (viable : AllViable k low) where
   module _ (scope : Scope) (start tokens : List Token) (left : Expr) (before : IsPostfix k low sound scope start left tokens) where
     abbrev Stops : Why → List Token → Type 0
     Stops why rest = Holds (BeginsExpr scope postfix) (suc k) start why rest
 
     -- the operator's token
-    behind_left : (m : Punct) → seen tokens ≡ Some (body.Mark m) → Spelt start (spell left ++ mark_at (place tokens) m ∷ []) (tail tokens)
-    behind_left m is = joined (spelt before) (spelt_at tokens (body.Mark m) is)
+    behind_left : (m : Punct) → next_body tokens ≡ Some (lexeme.Mark m) → Spelt start (spell left ++ mark_at (place tokens) m ∷ []) (tail tokens)
+    behind_left m is = joined (spelt before) (spelt_at tokens (lexeme.Mark m) is)
 
     module _ (low_left : height left ≤ k) (rest : List Token) (why : Why) where
       some : 0 < k
       some = let x = expr_high left in omega arith
 
-      index_viable : seen tokens ≡ Some (body.Mark p.OpenBracket) → index k low scope left tokens ≡ Stopped why rest → Stops why rest
+      index_viable : next_body tokens ≡ Some (lexeme.Mark p.OpenBracket) → index k low scope left tokens ≡ Stopped why rest → Stops why rest
       unfolding index
       index_viable is h =
-          elim (bind_stopped (low.expr (scope ++ expr_adds left) expression (tail tokens)) (λ inside. exactly (is_mark p.CloseBracket) >>= λ _. give (Index (place tokens) left inside)) why rest h) [
+          elim (bind_stopped (low.expr (scope ++ expr_adds left) expression (tail tokens)) (λ inside. expect (is_mark p.CloseBracket) >>= λ _. pure (Index (place tokens) left inside)) why rest h) [
             | inl x ↦ into (in_index scope (place tokens) left before.fits) low_left (behind_left p.OpenBracket is) (viable.expr (scope ++ expr_adds left) expression (tail tokens) rest why (omega arith) some x)
             | inr x ↦
                 (let y = sound.expr (scope ++ expr_adds left) expression (omega arith) (tail tokens) x.mid x.value x.one in
                 close_stopped p.CloseBracket (Index (place tokens) left x.value) Stops x.mid why rest x.two
-                (refused (joined (spelt before) (joined (spelt_at tokens (body.Mark p.OpenBracket) is) (spelt y))) (record {
+                (refused (joined (spelt before) (joined (spelt_at tokens (lexeme.Mark p.OpenBracket) is) (spelt y))) (record {
                   node = Index (place tokens) left x.value;
                   more = mark p.CloseBracket ∷ [];
                   fits = (omega arith, before.fits, y.fits);
@@ -178,18 +178,18 @@ module _ (k : ℕ) (low : Readers) (sound : AllSound k low) (viable : AllViable 
                 })))
           ]
 
-      call_viable : seen tokens ≡ Some (body.Mark p.OpenParen) → call k low scope left tokens ≡ Stopped why rest → Stops why rest
+      call_viable : next_body tokens ≡ Some (lexeme.Mark p.OpenParen) → call k low scope left tokens ≡ Stopped why rest → Stops why rest
       unfolding call arguments
       call_viable is h =
           into (in_call scope (place tokens) left before.fits) low_left (behind_left p.OpenParen is)
-          (arguments_viable k low sound viable some (scope ++ expr_adds left) (seen (tail tokens)) (tail tokens) rest why
+          (arguments_viable k low sound viable some (scope ++ expr_adds left) (next_body (tail tokens)) (tail tokens) rest why
           (given_stopped (arguments k low (scope ++ expr_adds left) (tail tokens)) (λ all. Call (place tokens) left all) why rest h))
 
-      access_viable : (operator : Access) → seen tokens ≡ Some (body.Mark (access_token operator)) → access_name operator left tokens ≡ Stopped why rest → Stops why rest
+      access_viable : (operator : Access) → next_body tokens ≡ Some (lexeme.Mark (access_token operator)) → access_name operator left tokens ≡ Stopped why rest → Stops why rest
       unfolding access_name
-      access_viable operator is h = by (name_of (seen (tail tokens))) h
+      access_viable operator is h = by (name_of (next_body (tail tokens))) h
         where
-          by : (m : Option (List ℕ)) → named m (λ x. give (Member (place tokens) operator left x)) (tail tokens) ≡ Stopped why rest → Stops why rest
+          by : (m : Option (List ℕ)) → with_name m (λ x. pure (Member (place tokens) operator left x)) (tail tokens) ≡ Stopped why rest → Stops why rest
           by (Some x) h = absurd (cc (h))
           by None h =
               stopped Stops h (refused (behind_left (access_token operator) is) (record {
@@ -204,33 +204,33 @@ module _ (k : ℕ) (low : Readers) (sound : AllSound k low) (viable : AllViable 
       unfolding step_by_one
       step_viable operator h = absurd (cc (h))
 
-      postfix_by_viable : (o : Option Body) → seen tokens ≡ o → goes_postfix left o ≡ true → postfix_by k low scope left o tokens ≡ Stopped why rest → Stops why rest
-      postfix_by_viable (Some (body.Mark p.OpenBracket)) is goes h = index_viable is h
-      postfix_by_viable (Some (body.Mark p.OpenParen)) is goes h = call_viable is h
-      postfix_by_viable (Some (body.Mark p.Dot)) is goes h = access_viable access.Dot is h
-      postfix_by_viable (Some (body.Mark p.Arrow)) is goes h = access_viable access.Arrow is h
-      postfix_by_viable (Some (body.Mark p.Increment)) is goes h = step_viable step.PostInc h
-      postfix_by_viable (Some (body.Mark p.Decrement)) is goes h = step_viable step.PostDec h
+      postfix_by_viable : (o : Option Body) → next_body tokens ≡ o → goes_postfix left o ≡ true → postfix_by k low scope left o tokens ≡ Stopped why rest → Stops why rest
+      postfix_by_viable (Some (lexeme.Mark p.OpenBracket)) is goes h = index_viable is h
+      postfix_by_viable (Some (lexeme.Mark p.OpenParen)) is goes h = call_viable is h
+      postfix_by_viable (Some (lexeme.Mark p.Dot)) is goes h = access_viable access.Dot is h
+      postfix_by_viable (Some (lexeme.Mark p.Arrow)) is goes h = access_viable access.Arrow is h
+      postfix_by_viable (Some (lexeme.Mark p.Increment)) is goes h = step_viable step.PostInc h
+      postfix_by_viable (Some (lexeme.Mark p.Decrement)) is goes h = step_viable step.PostDec h
       postfix_by_viable o is goes h = absurd (cc (goes))
 
     -- an operator behind a tree of the full height
-    high_by : (e : Expr) (m : Punct) (more : List Spelled) → seen tokens ≡ Some (body.Mark m) → IsExpr e scope postfix → spell e ≡ (spell left ++ mark_at (place tokens) m ∷ []) ++ more → Stops TooDeep tokens
+    high_by : (e : Expr) (m : Punct) (more : List Spelled) → next_body tokens ≡ Some (lexeme.Mark m) → IsExpr e scope postfix → spell e ≡ (spell left ++ mark_at (place tokens) m ∷ []) ++ more → Stops TooDeep tokens
     high_by e m more is fits parts =
-        too_deep {high = height e} (spelt before) (spelt_at tokens (body.Mark m) is) (read_completed before) (record { node = e; more = more; fits = fits; within = omega arith; parts = parts })
+        too_deep {high = height e} (spelt before) (spelt_at tokens (lexeme.Mark m) is) (read_completed before) (record { node = e; more = more; fits = fits; within = omega arith; parts = parts })
 
-    high_viable : (o : Option Body) → seen tokens ≡ o → goes_postfix left o ≡ true → Stops TooDeep tokens
-    high_viable (Some (body.Mark p.OpenBracket)) is goes =
+    high_viable : (o : Option Body) → next_body tokens ≡ o → goes_postfix left o ≡ true → Stops TooDeep tokens
+    high_viable (Some (lexeme.Mark p.OpenBracket)) is goes =
         high_by (Index (place tokens) left least_expr) p.OpenBracket (spell least_expr ++ mark p.CloseBracket ∷ []) is (omega arith, before.fits, tt) (simp append_assoc refl)
-    high_viable (Some (body.Mark p.OpenParen)) is goes =
+    high_viable (Some (lexeme.Mark p.OpenParen)) is goes =
         high_by (Call (place tokens) left NoExpr) p.OpenParen (mark p.CloseParen ∷ []) is (omega arith, before.fits, tt) refl
-    high_viable (Some (body.Mark p.Dot)) is goes =
+    high_viable (Some (lexeme.Mark p.Dot)) is goes =
         high_by (Member (place tokens) access.Dot left []) p.Dot (name [] ∷ []) is (omega arith, before.fits) (simp append_assoc refl)
-    high_viable (Some (body.Mark p.Arrow)) is goes =
+    high_viable (Some (lexeme.Mark p.Arrow)) is goes =
         high_by (Member (place tokens) access.Arrow left []) p.Arrow (name [] ∷ []) is (omega arith, before.fits) (simp append_assoc refl)
-    high_viable (Some (body.Mark p.Increment)) is goes =
-        high_by (Postfix' (place tokens) step.PostInc left) p.Increment [] is (omega arith, before.fits) (sym (append-nil _))
-    high_viable (Some (body.Mark p.Decrement)) is goes =
-        high_by (Postfix' (place tokens) step.PostDec left) p.Decrement [] is (omega arith, before.fits) (sym (append-nil _))
+    high_viable (Some (lexeme.Mark p.Increment)) is goes =
+        high_by (PostfixOp (place tokens) step.PostInc left) p.Increment [] is (omega arith, before.fits) (sym (append-nil _))
+    high_viable (Some (lexeme.Mark p.Decrement)) is goes =
+        high_by (PostfixOp (place tokens) step.PostDec left) p.Decrement [] is (omega arith, before.fits) (sym (append-nil _))
     high_viable o is goes = absurd (cc (goes))
 
   pub postfixes_viable : (scope : Scope) (start tokens rest : List Token) (left : Expr) (why : Why) → IsPostfix k low sound scope start left tokens → postfixes k low scope left tokens ≡ Stopped why rest
@@ -238,7 +238,7 @@ module _ (k : ℕ) (low : Readers) (sound : AllSound k low) (viable : AllViable 
   unfolding postfixes postfix_on
   postfixes_viable scope start tokens rest left why before h =
       climb_stopped goes_postfix (λ e. nat_le (height e) k) (postfix_on k low scope) (IsPostfix k low sound scope start) (Holds (BeginsExpr scope postfix) (suc k) start)
-      (λ left a tokens mid goes fits h before. postfix_by_sound k low sound scope start tokens mid left a before (leb-true (height left) k fits) (seen tokens) refl h)
-      (λ left tokens rest why goes fits h before. postfix_by_viable scope start tokens left before (leb-true (height left) k fits) rest why (seen tokens) refl goes h)
-      (λ left tokens goes before. high_viable scope start tokens left before (seen tokens) refl goes)
+      (λ left a tokens mid goes fits h before. postfix_by_sound k low sound scope start tokens mid left a before (leb-true (height left) k fits) (next_body tokens) refl h)
+      (λ left tokens rest why goes fits h before. postfix_by_viable scope start tokens left before (leb-true (height left) k fits) rest why (next_body tokens) refl goes h)
+      (λ left tokens goes before. high_viable scope start tokens left before (next_body tokens) refl goes)
       k left tokens rest why before h

@@ -5,7 +5,7 @@ use Rattle.critical_table.specs.declared.pos.Pos.{Pos}
 use Rattle.c_lexer.specs.declared.punct.Punct.TheVariants as p
 use Rattle.c_lexer.specs.declared.token.Token.{Token}
 use Rattle.c_lexer.specs.declared.token.Body.{Body}
-use Rattle.c_lexer.specs.declared.token.Body.TheVariants as body
+use Rattle.c_lexer.specs.declared.token.Body.TheVariants as lexeme
 use Rattle.c_lexer.specs.declared.word.Word.TheVariants as w
 use Rattle.c_syntax.specs.declared.expression.Constant.TheVariants as constant
 use Rattle.c_syntax.specs.declared.operator.Measure.{Measure}
@@ -17,19 +17,19 @@ use Rattle.c_syntax.specs.Begin.{BeginsExpr}
 use Rattle.c_syntax.specs.Height.{height, type_name_height}
 use Rattle.c_syntax.specs.Levels.{expression, cast, unary, postfix, operand_level}
 use Rattle.c_syntax.specs.Operators.{prefix_token, measure_word}
-use Rattle.c_syntax.specs.Reader.{Reader, Why, Unfit, TooDeep, Found, Stopped, and_then, seen, place, tail, give, stop, choose, deeper, exactly, ◌>>=◌}
-use Rattle.c_syntax.specs.ReadExpr.{Readers, wanted, begins_expr, piece_by, piece, pieces, postfixes, grouped, cast_on, inside, measured, sized, size, alignment, text, prefixed, unary_by, unary_at}
+use Rattle.c_syntax.specs.Parser.{Parser, Why, Unfit, TooDeep, Found, Stopped, and_then, next_body, place, tail, pure, fail, choose, deeper, expect, ◌>>=◌}
+use Rattle.c_syntax.specs.ReadExpr.{Parsers, expr_lower, begins_expr, piece_by, piece, pieces, postfixes, paren_expr, cast_on, inside, type_measure, size_behind_paren, size, alignment, text, prefix_expr, unary_by, unary_at}
 use Rattle.c_syntax.specs.ReadToken.{is_mark, is_literal, begins_type, prefix_of}
 use Rattle.c_syntax.specs.Scopes.{Scope, is_type, type_name_adds}
 use Rattle.c_syntax.specs.Spelling.{spell, spell_type_name}
-use Rattle.c_syntax.specs.Tokens.{placed, word_at, mark, mark_at}
-use Rattle.c_syntax.specs.Tree.{Expr, Const, Id, Text, Paren, Prefix', Measure', Cast, TypeName}
+use Rattle.c_syntax.specs.Tokens.{token_at, word_at, mark, mark_at}
+use Rattle.c_syntax.specs.Tree.{Expr, Const, Id, Text, Paren, PrefixOp, MeasureOp, Cast, TypeName}
 use Rattle.c_syntax.specs.WellFormed.{IsExpr, IsTypeName}
 use Rattle.c_syntax.proofs.Completions.{spelt_next, too_deep_here}
 use Rattle.c_syntax.proofs.Contexts.{Completed, stopped, bind_stopped, given_stopped, mark_stopped, close_stopped, deeper_stopped, many_stopped, refused, too_deep, Context, into, weaker}
 use Rattle.c_syntax.proofs.Found.{chosen, Spelt, joined, nothing_spelt, spelt_at, spelt_bare}
 use Rattle.c_syntax.proofs.Sound.{spelt, AllSound}
-use Rattle.c_syntax.proofs.SoundExpr.{IsExpr_down, low_operand, wanted_found, pieces_sound}
+use Rattle.c_syntax.proofs.SoundExpr.{IsExpr_down, low_operand, expr_lower_found, pieces_sound}
 use Rattle.c_syntax.proofs.Started.{origin, least_expr, least_type, least_type_fits, expr_completed, ExprBegun, prefix_begun, expr_begun}
 use Rattle.c_syntax.proofs.TokenTests.{is_mark_is, token_is, prefix_is}
 use Rattle.c_syntax.proofs.Viable.{Holds, AtOnce, AllViable}
@@ -39,7 +39,7 @@ use Rattle.c_syntax.proofs.ViablePostfix.{postfixes_viable}
 
 -- an expression whose part is an expression, or a type name
 abbrev pub InExpr : Scope → ℕ → Scope → ℕ → ℕ → List Spelled → Type 0
-InExpr inner level outer wanted = Context (λ e. IsExpr e inner level) height spell (λ e. IsExpr e outer wanted) height spell (λ j. suc j)
+InExpr inner level outer expr_lower = Context (λ e. IsExpr e inner level) height spell (λ e. IsExpr e outer expr_lower) height spell (λ j. suc j)
 
 abbrev InTyped : Scope → ℕ → ℕ → List Spelled → Type 0
 InTyped scope level = Context (λ type. IsTypeName type scope) type_name_height spell_type_name (λ e. IsExpr e scope level) height spell (λ j. suc j)
@@ -53,18 +53,18 @@ in_paren scope level = record {
   spells = λ e. refl;
 }
 
-in_prefix : (scope : Scope) (level : ℕ) (pos : Pos) (operator : Prefix) → level ≤ unary → InExpr scope (operand_level operator) scope level 0 (placed pos (prefix_token operator) ∷ [])
+in_prefix : (scope : Scope) (level : ℕ) (pos : Pos) (operator : Prefix) → level ≤ unary → InExpr scope (operand_level operator) scope level 0 (token_at pos (prefix_token operator) ∷ [])
 in_prefix scope level pos operator at_most = record {
-  make = λ e. Prefix' pos operator e;
+  make = λ e. PrefixOp pos operator e;
   behind = [];
   fits = λ e inner. (at_most, inner);
   within = λ e j least low. omega (arith, low);
-  spells = λ e. ap (λ z. placed pos (prefix_token operator) ∷ z) (sym (append-nil (spell e)));
+  spells = λ e. ap (λ z. token_at pos (prefix_token operator) ∷ z) (sym (append-nil (spell e)));
 }
 
 in_measure : (scope : Scope) (level : ℕ) (pos : Pos) (operator : Measure) → level ≤ unary → InTyped scope level 0 (word_at pos (measure_word operator) ∷ mark p.OpenParen ∷ [])
 in_measure scope level pos operator at_most = record {
-  make = λ type. Measure' pos operator type;
+  make = λ type. MeasureOp pos operator type;
   behind = mark p.CloseParen ∷ [];
   fits = λ type inner. (at_most, inner);
   within = λ type j least low. omega (arith, low);
@@ -93,7 +93,7 @@ in_cast scope level pos type at_most fits = record {
 -- ---- literals, and what is wanted
 
 piece_goes_on : (wide : Bool) (o : Option Body) (tokens rest : List Token) (why : Why) → is_literal wide o ≡ true → piece_by o tokens ≡ Stopped why rest → ⊥
-piece_goes_on wide (Some (body.Literal units other)) tokens rest why is h = cc (h)
+piece_goes_on wide (Some (lexeme.Literal units other)) tokens rest why is h = cc (h)
 piece_goes_on true o tokens rest why is h = cc (is)
 piece_goes_on false o tokens rest why is h = cc (is)
 
@@ -101,14 +101,14 @@ pub pieces_go_on : (wide : Bool) (tokens rest : List Token) (why : Why) → piec
 unfolding pieces piece
 pieces_go_on wide tokens rest why h =
     many_stopped (λ s o. is_literal wide o) (λ s. piece) (λ s units. s) (λ s tokens why rest. ⊥)
-    (λ s tokens rest why goes h. piece_goes_on wide (seen tokens) tokens rest why goes h) (λ s tokens mid rest units why goes h then. then) wide tokens rest why h
+    (λ s tokens rest why goes h. piece_goes_on wide (next_body tokens) tokens rest why goes h) (λ s tokens mid rest units why goes h then. then) wide tokens rest why h
 
 -- where some height is left
-wanted_some : (P : Why → List Token → Type 0) (scope : Scope) (k : ℕ) (r : Reader Expr) (tokens rest : List Token) (why : Why) → 0 < k → wanted scope k r tokens ≡ Stopped why rest → P Unfit tokens
+expr_lower_some : (P : Why → List Token → Type 0) (scope : Scope) (k : ℕ) (r : Parser Expr) (tokens rest : List Token) (why : Why) → 0 < k → expr_lower scope k r tokens ≡ Stopped why rest → P Unfit tokens
     → (r tokens ≡ Stopped why rest → P why rest) → P why rest
-unfolding wanted
-wanted_some P scope k r tokens rest why some h unfit next =
-    elim (chosen (begins_expr scope (seen tokens)) (deeper k r) (stop Unfit) tokens (Stopped why rest) h) [
+unfolding expr_lower
+expr_lower_some P scope k r tokens rest why some h unfit next =
+    elim (chosen (begins_expr scope (next_body tokens)) (deeper k r) (fail Unfit) tokens (Stopped why rest) h) [
       | inl x ↦ by k some x.1
       | inr x ↦ stopped P x.1 unfit
     ]
@@ -118,27 +118,27 @@ wanted_some P scope k r tokens rest why some h unfit next =
     by (suc k) some h = next h
 
 -- and where none is
-wanted_low : (scope : Scope) (k : ℕ) (r : Reader Expr) (tokens : List Token) → k ≡ 0 → ((e : Expr) (rest : List Token) → wanted scope k r tokens ≡ Found e rest → ⊥)
-    × ((why : Why) (rest : List Token) → wanted scope k r tokens ≡ Stopped why rest → AtOnce scope tokens why rest)
-unfolding wanted
-wanted_low scope (suc k) r tokens none = absurd (omega arith)
-wanted_low scope zero r tokens none = (λ e rest h. found (begins_expr scope (seen tokens)) e rest h, λ why rest h. stops (begins_expr scope (seen tokens)) why rest refl h)
+expr_lower_low : (scope : Scope) (k : ℕ) (r : Parser Expr) (tokens : List Token) → k ≡ 0 → ((e : Expr) (rest : List Token) → expr_lower scope k r tokens ≡ Found e rest → ⊥)
+    × ((why : Why) (rest : List Token) → expr_lower scope k r tokens ≡ Stopped why rest → AtOnce scope tokens why rest)
+unfolding expr_lower
+expr_lower_low scope (suc k) r tokens none = absurd (omega arith)
+expr_lower_low scope zero r tokens none = (λ e rest h. found (begins_expr scope (next_body tokens)) e rest h, λ why rest h. stops (begins_expr scope (next_body tokens)) why rest refl h)
   where
-    found : (b : Bool) (e : Expr) (rest : List Token) → choose b (stop TooDeep) (stop Unfit) tokens ≡ Found e rest → ⊥
+    found : (b : Bool) (e : Expr) (rest : List Token) → choose b (fail TooDeep) (fail Unfit) tokens ≡ Found e rest → ⊥
     found true e rest h = cc (h)
     found false e rest h = cc (h)
 
-    stops : (b : Bool) (why : Why) (rest : List Token) → begins_expr scope (seen tokens) ≡ b → choose {A = Expr} b (stop TooDeep) (stop Unfit) tokens ≡ Stopped why rest → AtOnce scope tokens why rest
+    stops : (b : Bool) (why : Why) (rest : List Token) → begins_expr scope (next_body tokens) ≡ b → choose {A = Expr} b (fail TooDeep) (fail Unfit) tokens ≡ Stopped why rest → AtOnce scope tokens why rest
     stops true why rest is h = record { at_once = cc (h); starts = λ e. is }
     stops false why rest is h = record { at_once = cc (h); starts = λ e. absurd (cc (e, h)) }
 
-pub grouped_at_once : (k : ℕ) (low : Readers) (scope : Scope) (tokens rest : List Token) (why : Why) → k ≡ 0 → grouped k low scope tokens ≡ Stopped why rest → AtOnce scope tokens why rest
-unfolding grouped
-grouped_at_once k low scope tokens rest why none h =
-    let low_wanted = wanted_low scope k (low.expr scope expression) tokens none in
-    elim (bind_stopped (wanted scope k (low.expr scope expression) tokens) (λ inside. exactly (is_mark p.CloseParen) >>= λ _. postfixes k low scope (Paren inside)) why rest h) [
-      | inl x ↦ low_wanted.1 why rest x
-      | inr x ↦ absurd (low_wanted.0 x.value x.mid x.one)
+pub paren_expr_at_once : (k : ℕ) (low : Parsers) (scope : Scope) (tokens rest : List Token) (why : Why) → k ≡ 0 → paren_expr k low scope tokens ≡ Stopped why rest → AtOnce scope tokens why rest
+unfolding paren_expr
+paren_expr_at_once k low scope tokens rest why none h =
+    let low_expr_lower = expr_lower_low scope k (low.expr scope expression) tokens none in
+    elim (bind_stopped (expr_lower scope k (low.expr scope expression) tokens) (λ inside. expect (is_mark p.CloseParen) >>= λ _. postfixes k low scope (Paren inside)) why rest h) [
+      | inl x ↦ low_expr_lower.1 why rest x
+      | inr x ↦ absurd (low_expr_lower.0 x.value x.mid x.one)
     ]
 
 -- some height is left: one level of it alone, or more
@@ -147,17 +147,17 @@ one_or_more zero some = absurd (omega arith)
 one_or_more (suc zero) some = inl refl
 one_or_more (suc (suc k)) some = inr (omega arith)
 
-module _ (k : ℕ) (low : Readers) (sound : AllSound k low) (viable : AllViable k low) where
-  pub grouped_stops : (scope : Scope) (tokens after rest : List Token) (why : Why) → Spelt tokens (mark p.OpenParen ∷ []) after → 0 < k → grouped k low scope after ≡ Stopped why rest
+module _ (k : ℕ) (low : Parsers) (sound : AllSound k low) (viable : AllViable k low) where
+  pub paren_expr_stops : (scope : Scope) (tokens after rest : List Token) (why : Why) → Spelt tokens (mark p.OpenParen ∷ []) after → 0 < k → paren_expr k low scope after ≡ Stopped why rest
       → Holds (BeginsExpr scope postfix) (suc k) tokens why rest
-  unfolding grouped
-  grouped_stops scope tokens after rest why opens some h =
-      elim (bind_stopped (wanted scope k (low.expr scope expression) after) (λ inside. exactly (is_mark p.CloseParen) >>= λ _. postfixes k low scope (Paren inside)) why rest h) [
-        | inl x ↦ wanted_some (Holds (BeginsExpr scope postfix) (suc k) tokens) scope k (low.expr scope expression) after rest why some x
+  unfolding paren_expr
+  paren_expr_stops scope tokens after rest why opens some h =
+      elim (bind_stopped (expr_lower scope k (low.expr scope expression) after) (λ inside. expect (is_mark p.CloseParen) >>= λ _. postfixes k low scope (Paren inside)) why rest h) [
+        | inl x ↦ expr_lower_some (Holds (BeginsExpr scope postfix) (suc k) tokens) scope k (low.expr scope expression) after rest why some x
             (refused opens (record { node = Paren least_expr; more = spell least_expr ++ mark p.CloseParen ∷ []; fits = tt; within = omega arith; parts = refl }))
             (λ h. into (in_paren scope postfix) (omega arith) opens (viable.expr scope expression after rest why (omega arith) some h))
         | inr x ↦
-            (let y = sound.expr scope expression (omega arith) after x.mid x.value (wanted_found scope k (low.expr scope expression) after x.mid x.value x.one) in
+            (let y = sound.expr scope expression (omega arith) after x.mid x.value (expr_lower_found scope k (low.expr scope expression) after x.mid x.value x.one) in
             mark_stopped p.CloseParen (postfixes k low scope (Paren x.value)) (Holds (BeginsExpr scope postfix) (suc k) tokens) x.mid why rest x.two
             (refused (joined opens (spelt y)) (record { node = Paren x.value; more = mark p.CloseParen ∷ []; fits = y.fits; within = omega (arith, y.within); parts = refl }))
             (λ mid closes h. postfixes_viable k low sound viable scope tokens mid rest (Paren x.value) why
@@ -173,15 +173,15 @@ module _ (k : ℕ) (low : Readers) (sound : AllSound k low) (viable : AllViable 
     primary : Holds (BeginsExpr scope postfix) (suc k) tokens why rest → Stops why rest
     primary x = weaker (λ e fits. IsExpr_down e scope postfix level (omega arith) fits) x
 
-    cast_viable : level ≤ cast → seen tokens ≡ Some (body.Mark p.OpenParen) → cast_on k low scope (place tokens) (tail tokens) ≡ Stopped why rest → Stops why rest
+    cast_viable : level ≤ cast → next_body tokens ≡ Some (lexeme.Mark p.OpenParen) → cast_on k low scope (place tokens) (tail tokens) ≡ Stopped why rest → Stops why rest
     unfolding cast_on
     cast_viable at_most is h =
-        elim (bind_stopped (low.type_name scope (tail tokens)) (λ type. exactly (is_mark p.CloseParen) >>= λ _. low.expr (scope ++ type_name_adds type) cast >>= λ operand. give (Cast (place tokens) type operand)) why rest h) [
-          | inl x ↦ into (in_cast_type scope level (place tokens) at_most) (omega arith) (spelt_at tokens (body.Mark p.OpenParen) is) (viable.type_name scope (tail tokens) rest why some x)
+        elim (bind_stopped (low.type_name scope (tail tokens)) (λ type. expect (is_mark p.CloseParen) >>= λ _. low.expr (scope ++ type_name_adds type) cast >>= λ operand. pure (Cast (place tokens) type operand)) why rest h) [
+          | inl x ↦ into (in_cast_type scope level (place tokens) at_most) (omega arith) (spelt_at tokens (lexeme.Mark p.OpenParen) is) (viable.type_name scope (tail tokens) rest why some x)
           | inr x ↦
               (let type = sound.type_name scope (tail tokens) x.mid x.value x.one in
-              let so_far = joined (spelt_at tokens (body.Mark p.OpenParen) is) (spelt type) in
-              mark_stopped p.CloseParen (low.expr (scope ++ type_name_adds x.value) cast >>= λ operand. give (Cast (place tokens) x.value operand)) Stops x.mid why rest x.two
+              let so_far = joined (spelt_at tokens (lexeme.Mark p.OpenParen) is) (spelt type) in
+              mark_stopped p.CloseParen (low.expr (scope ++ type_name_adds x.value) cast >>= λ operand. pure (Cast (place tokens) x.value operand)) Stops x.mid why rest x.two
               (refused so_far (record {
                 node = Cast (place tokens) x.value least_expr;
                 more = mark p.CloseParen ∷ spell least_expr;
@@ -194,13 +194,13 @@ module _ (k : ℕ) (low : Readers) (sound : AllSound k low) (viable : AllViable 
               (given_stopped (low.expr (scope ++ type_name_adds x.value) cast mid) (λ operand. Cast (place tokens) x.value operand) why rest h))))
         ]
 
-    inside_viable : seen tokens ≡ Some (body.Mark p.OpenParen) → inside k low scope level (place tokens) (tail tokens) ≡ Stopped why rest → Stops why rest
+    inside_viable : next_body tokens ≡ Some (lexeme.Mark p.OpenParen) → inside k low scope level (place tokens) (tail tokens) ≡ Stopped why rest → Stops why rest
     unfolding inside
     inside_viable is h =
-        elim (chosen (begins_type scope (seen (tail tokens))) _ _ (tail tokens) (Stopped why rest) h) [
+        elim (chosen (begins_type scope (next_body (tail tokens))) _ _ (tail tokens) (Stopped why rest) h) [
           | inl x ↦ elim (chosen (nat_le level cast) _ _ (tail tokens) (Stopped why rest) x.1) [
             | inl y ↦ cast_viable (leb-true level cast y.0) is y.1
-            | inr y ↦ stopped Stops y.1 (refused (spelt_bare tokens (body.Mark p.OpenParen) is) (record {
+            | inr y ↦ stopped Stops y.1 (refused (spelt_bare tokens (lexeme.Mark p.OpenParen) is) (record {
               node = Paren least_expr;
               more = spell least_expr ++ mark p.CloseParen ∷ [];
               fits = tt;
@@ -208,88 +208,88 @@ module _ (k : ℕ) (low : Readers) (sound : AllSound k low) (viable : AllViable 
               parts = refl;
             }))
           ]
-          | inr x ↦ primary (grouped_stops scope tokens (tail tokens) rest why (spelt_bare tokens (body.Mark p.OpenParen) is) some x.1)
+          | inr x ↦ primary (paren_expr_stops scope tokens (tail tokens) rest why (spelt_bare tokens (lexeme.Mark p.OpenParen) is) some x.1)
         ]
 
-    measured_viable : (operator : Measure) (after : List Token) → seen tokens ≡ Some (body.Word (measure_word operator)) → Spelt (tail tokens) (mark p.OpenParen ∷ []) after
-        → measured k low scope operator (place tokens) after ≡ Stopped why rest → Stops why rest
-    unfolding measured
-    measured_viable operator after is opens h =
-        let so_far = joined (spelt_at tokens (body.Word (measure_word operator)) is) opens in
-        elim (bind_stopped (low.type_name scope after) (λ type. exactly (is_mark p.CloseParen) >>= λ _. give (Measure' (place tokens) operator type)) why rest h) [
+    type_measure_viable : (operator : Measure) (after : List Token) → next_body tokens ≡ Some (lexeme.Word (measure_word operator)) → Spelt (tail tokens) (mark p.OpenParen ∷ []) after
+        → type_measure k low scope operator (place tokens) after ≡ Stopped why rest → Stops why rest
+    unfolding type_measure
+    type_measure_viable operator after is opens h =
+        let so_far = joined (spelt_at tokens (lexeme.Word (measure_word operator)) is) opens in
+        elim (bind_stopped (low.type_name scope after) (λ type. expect (is_mark p.CloseParen) >>= λ _. pure (MeasureOp (place tokens) operator type)) why rest h) [
           | inl x ↦ into (in_measure scope level (place tokens) operator low_level) (omega arith) so_far (viable.type_name scope after rest why some x)
           | inr x ↦
               (let type = sound.type_name scope after x.mid x.value x.one in
-              close_stopped p.CloseParen (Measure' (place tokens) operator x.value) Stops x.mid why rest x.two
-              (refused (joined so_far (spelt type)) (record { node = Measure' (place tokens) operator x.value; more = mark p.CloseParen ∷ []; fits = (low_level, type.fits); within = omega (arith, type.within); parts = refl })))
+              close_stopped p.CloseParen (MeasureOp (place tokens) operator x.value) Stops x.mid why rest x.two
+              (refused (joined so_far (spelt type)) (record { node = MeasureOp (place tokens) operator x.value; more = mark p.CloseParen ∷ []; fits = (low_level, type.fits); within = omega (arith, type.within); parts = refl })))
         ]
 
-    low_grouped : 1 < k → (tokens : List Token) → seen tokens ≡ Some (body.Mark p.OpenParen) → low.grouped scope (tail tokens) ≡ Stopped why rest → Holds (BeginsExpr scope unary) k tokens why rest
-    low_grouped more [] is h = absurd (cc (is))
-    low_grouped more (token ∷ tokens) is h = weaker (λ e fits. IsExpr_down e scope postfix unary (omega arith) fits) (viable.grouped scope token tokens rest why (cc (is)) more h)
+    low_paren_expr : 1 < k → (tokens : List Token) → next_body tokens ≡ Some (lexeme.Mark p.OpenParen) → low.paren_expr scope (tail tokens) ≡ Stopped why rest → Holds (BeginsExpr scope unary) k tokens why rest
+    low_paren_expr more [] is h = absurd (cc (is))
+    low_paren_expr more (token ∷ tokens) is h = weaker (λ e fits. IsExpr_down e scope postfix unary (omega arith) fits) (viable.paren_expr scope token tokens rest why (cc (is)) more h)
 
     -- behind `sizeof` and a parenthesis, where the height suffices for a type name alone
-    sized_low : (why : Why) (after : List Token) → Spelt tokens (word_at (place tokens) w.Sizeof ∷ mark p.OpenParen ∷ []) after → AtOnce scope after why rest → Stops why rest
-    sized_low why after so_far x = by why (subst (λ rest. Spelt tokens (word_at (place tokens) w.Sizeof ∷ mark p.OpenParen ∷ []) rest) x.at_once so_far)
-        (λ e. expr_begun scope expression (omega arith) (place rest) (seen rest) (subst (λ tokens. begins_expr scope (seen tokens) ≡ true) x.at_once (x.starts e)))
+    size_behind_paren_low : (why : Why) (after : List Token) → Spelt tokens (word_at (place tokens) w.Sizeof ∷ mark p.OpenParen ∷ []) after → AtOnce scope after why rest → Stops why rest
+    size_behind_paren_low why after so_far x = by why (subst (λ rest. Spelt tokens (word_at (place tokens) w.Sizeof ∷ mark p.OpenParen ∷ []) rest) x.at_once so_far)
+        (λ e. expr_begun scope expression (omega arith) (place rest) (next_body rest) (subst (λ tokens. begins_expr scope (next_body tokens) ≡ true) x.at_once (x.starts e)))
       where
         type_completed : Completed (λ e. IsExpr e scope level) height spell (suc k) (word_at (place tokens) w.Sizeof ∷ mark p.OpenParen ∷ [])
         type_completed = record {
-          node = Measure' (place tokens) measure.SizeType least_type;
+          node = MeasureOp (place tokens) measure.SizeType least_type;
           more = word_at origin w.Int ∷ mark p.CloseParen ∷ [];
           fits = (low_level, least_type_fits scope);
           within = omega arith;
           parts = refl;
         }
 
-        by : (why : Why) → Spelt tokens (word_at (place tokens) w.Sizeof ∷ mark p.OpenParen ∷ []) rest → (why ≡ TooDeep → ExprBegun scope expression (place rest) (seen rest)) → Stops why rest
+        by : (why : Why) → Spelt tokens (word_at (place tokens) w.Sizeof ∷ mark p.OpenParen ∷ []) rest → (why ≡ TooDeep → ExprBegun scope expression (place rest) (next_body rest)) → Stops why rest
         by Unfit so_far starts = refused so_far type_completed
         by TooDeep so_far starts =
             let next = starts refl in
             let inner = next.completed in
             too_deep {high = suc (suc next.high)} so_far (spelt_next rest next) type_completed (record {
-              node = Prefix' (place tokens) prefix.SizeExpr (Paren inner.node);
+              node = PrefixOp (place tokens) prefix.SizeExpr (Paren inner.node);
               more = inner.more ++ mark p.CloseParen ∷ [];
               fits = (low_level, inner.fits);
               within = omega (arith, inner.within);
               parts = ap (λ z. word_at (place tokens) w.Sizeof ∷ mark p.OpenParen ∷ (z ++ mark p.CloseParen ∷ [])) inner.parts;
             })
 
-    sized_viable : seen tokens ≡ Some (body.Word w.Sizeof) → seen (tail tokens) ≡ Some (body.Mark p.OpenParen) → sized k low scope (place tokens) (tail (tail tokens)) ≡ Stopped why rest → Stops why rest
-    unfolding sized
-    sized_viable is opens h =
-        elim (chosen (begins_type scope (seen (tail (tail tokens)))) _ _ (tail (tail tokens)) (Stopped why rest) h) [
-          | inl x ↦ measured_viable measure.SizeType (tail (tail tokens)) is (spelt_bare (tail tokens) (body.Mark p.OpenParen) opens) x.1
+    size_behind_paren_viable : next_body tokens ≡ Some (lexeme.Word w.Sizeof) → next_body (tail tokens) ≡ Some (lexeme.Mark p.OpenParen) → size_behind_paren k low scope (place tokens) (tail (tail tokens)) ≡ Stopped why rest → Stops why rest
+    unfolding size_behind_paren
+    size_behind_paren_viable is opens h =
+        elim (chosen (begins_type scope (next_body (tail (tail tokens)))) _ _ (tail (tail tokens)) (Stopped why rest) h) [
+          | inl x ↦ type_measure_viable measure.SizeType (tail (tail tokens)) is (spelt_bare (tail tokens) (lexeme.Mark p.OpenParen) opens) x.1
           | inr x ↦
-              (let stops = given_stopped (low.grouped scope (tail (tail tokens))) (λ operand. Prefix' (place tokens) prefix.SizeExpr operand) why rest x.1 in
+              (let stops = given_stopped (low.paren_expr scope (tail (tail tokens))) (λ operand. PrefixOp (place tokens) prefix.SizeExpr operand) why rest x.1 in
               elim (one_or_more k some) [
-                | inl one ↦ sized_low why (tail (tail tokens)) (joined (spelt_at tokens (body.Word w.Sizeof) is) (spelt_bare (tail tokens) (body.Mark p.OpenParen) opens)) (viable.grouped_low scope (tail (tail tokens)) rest why one stops)
-                | inr more ↦ into (in_prefix scope level (place tokens) prefix.SizeExpr low_level) (omega arith) (spelt_at tokens (body.Word w.Sizeof) is) (low_grouped more (tail tokens) opens stops)
+                | inl one ↦ size_behind_paren_low why (tail (tail tokens)) (joined (spelt_at tokens (lexeme.Word w.Sizeof) is) (spelt_bare (tail tokens) (lexeme.Mark p.OpenParen) opens)) (viable.paren_expr_low scope (tail (tail tokens)) rest why one stops)
+                | inr more ↦ into (in_prefix scope level (place tokens) prefix.SizeExpr low_level) (omega arith) (spelt_at tokens (lexeme.Word w.Sizeof) is) (low_paren_expr more (tail tokens) opens stops)
               ])
         ]
 
-    size_viable : seen tokens ≡ Some (body.Word w.Sizeof) → size k low scope (place tokens) (tail tokens) ≡ Stopped why rest → Stops why rest
+    size_viable : next_body tokens ≡ Some (lexeme.Word w.Sizeof) → size k low scope (place tokens) (tail tokens) ≡ Stopped why rest → Stops why rest
     unfolding size
     size_viable is h =
-        elim (chosen (is_mark p.OpenParen (seen (tail tokens))) _ _ (tail tokens) (Stopped why rest) h) [
-          | inl x ↦ sized_viable is (is_mark_is p.OpenParen (seen (tail tokens)) x.0) x.1
-          | inr x ↦ into (in_prefix scope level (place tokens) prefix.SizeExpr low_level) (omega arith) (spelt_at tokens (body.Word w.Sizeof) is)
+        elim (chosen (is_mark p.OpenParen (next_body (tail tokens))) _ _ (tail tokens) (Stopped why rest) h) [
+          | inl x ↦ size_behind_paren_viable is (is_mark_is p.OpenParen (next_body (tail tokens)) x.0) x.1
+          | inr x ↦ into (in_prefix scope level (place tokens) prefix.SizeExpr low_level) (omega arith) (spelt_at tokens (lexeme.Word w.Sizeof) is)
               (viable.expr scope unary (tail tokens) rest why (omega arith) some
-              (given_stopped (low.expr scope unary (tail tokens)) (λ operand. Prefix' (place tokens) prefix.SizeExpr operand) why rest x.1))
+              (given_stopped (low.expr scope unary (tail tokens)) (λ operand. PrefixOp (place tokens) prefix.SizeExpr operand) why rest x.1))
         ]
 
-    alignment_viable : seen tokens ≡ Some (body.Word w.Alignof) → alignment k low scope (place tokens) (tail tokens) ≡ Stopped why rest → Stops why rest
+    alignment_viable : next_body tokens ≡ Some (lexeme.Word w.Alignof) → alignment k low scope (place tokens) (tail tokens) ≡ Stopped why rest → Stops why rest
     unfolding alignment
     alignment_viable is h =
-        mark_stopped p.OpenParen (measured k low scope measure.AlignType (place tokens)) Stops (tail tokens) why rest h
-        (refused (spelt_at tokens (body.Word w.Alignof) is) (record {
-          node = Measure' (place tokens) measure.AlignType least_type;
+        mark_stopped p.OpenParen (type_measure k low scope measure.AlignType (place tokens)) Stops (tail tokens) why rest h
+        (refused (spelt_at tokens (lexeme.Word w.Alignof) is) (record {
+          node = MeasureOp (place tokens) measure.AlignType least_type;
           more = mark p.OpenParen ∷ word_at origin w.Int ∷ mark p.CloseParen ∷ [];
           fits = (low_level, least_type_fits scope);
           within = omega arith;
           parts = refl;
         }))
-        (λ mid opens h. measured_viable measure.AlignType mid is opens h)
+        (λ mid opens h. type_measure_viable measure.AlignType mid is opens h)
 
   -- ---- unary expressions
 
@@ -301,8 +301,8 @@ module _ (k : ℕ) (low : Readers) (sound : AllSound k low) (viable : AllViable 
     nothing_refused = refused (nothing_spelt tokens) (expr_completed scope level k)
 
     -- a token that only a higher expression begins with
-    started_deep : begins_expr scope (seen tokens) ≡ true → StopsAt TooDeep tokens
-    started_deep h = too_deep_here (expr_completed scope level k) (expr_begun scope level low_level (place tokens) (seen tokens) h)
+    started_deep : begins_expr scope (next_body tokens) ≡ true → StopsAt TooDeep tokens
+    started_deep h = too_deep_here (expr_completed scope level k) (expr_begun scope level low_level (place tokens) (next_body tokens) h)
 
     -- the postfix operators behind a primary expression
     primary_viable : (first : Expr) (mid : List Token) → Spelt tokens (spell first) mid → IsExpr first scope postfix → height first ≡ 1 → postfixes k low scope first mid ≡ Stopped why rest → StopsAt why rest
@@ -310,47 +310,47 @@ module _ (k : ℕ) (low : Readers) (sound : AllSound k low) (viable : AllViable 
         weaker (λ e fits. IsExpr_down e scope postfix level (omega arith) fits)
         (postfixes_viable k low sound viable scope tokens mid rest first why (record { spells = spelt.takes; fits = fits; within = omega (arith, one) }) h)
 
-    text_viable : (units : List ℤ) (wide : Bool) → seen tokens ≡ Some (body.Literal units wide) → text k low scope (place tokens) units wide (tail tokens) ≡ Stopped why rest → StopsAt why rest
+    text_viable : (units : List ℤ) (wide : Bool) → next_body tokens ≡ Some (lexeme.Literal units wide) → text k low scope (place tokens) units wide (tail tokens) ≡ Stopped why rest → StopsAt why rest
     unfolding text
     text_viable units wide is h =
         elim (bind_stopped (pieces wide (tail tokens)) (λ more. postfixes k low scope (Text (place tokens) (record { pieces = units ∷ more; wide = wide }))) why rest h) [
           | inl x ↦ absurd (pieces_go_on wide (tail tokens) rest why x)
           | inr x ↦ primary_viable (Text (place tokens) (record { pieces = units ∷ x.value; wide = wide })) x.mid
-              (joined (spelt_at tokens (body.Literal units wide) is) (pieces_sound wide (tail tokens) x.mid x.value x.one)) (λ none. cc (none)) refl x.two
+              (joined (spelt_at tokens (lexeme.Literal units wide) is) (pieces_sound wide (tail tokens) x.mid x.value x.one)) (λ none. cc (none)) refl x.two
         ]
 
-    prefixed_viable : (m : Option Prefix) → prefix_of (seen tokens) ≡ m → prefixed k low scope (place tokens) m tokens ≡ Stopped why rest → StopsAt why rest
-    unfolding prefixed
-    prefixed_viable None m h = stopped StopsAt h nothing_refused
-    prefixed_viable (Some operator) m h =
-        let next = token_is prefix_token (seen tokens) (prefix_of (seen tokens)) operator (prefix_is (seen tokens)) m in
+    prefix_expr_viable : (m : Option Prefix) → prefix_of (next_body tokens) ≡ m → prefix_expr k low scope (place tokens) m tokens ≡ Stopped why rest → StopsAt why rest
+    unfolding prefix_expr
+    prefix_expr_viable None m h = stopped StopsAt h nothing_refused
+    prefix_expr_viable (Some operator) m h =
+        let next = token_is prefix_token (next_body tokens) (prefix_of (next_body tokens)) operator (prefix_is (next_body tokens)) m in
         let is = spelt_at tokens (prefix_token operator) next in
-        deeper_stopped StopsAt k (λ ts. and_then (low.expr scope (operand_level operator) (tail ts)) (λ operand. give (Prefix' (place tokens) operator operand))) tokens why rest h
+        deeper_stopped StopsAt k (λ ts. and_then (low.expr scope (operand_level operator) (tail ts)) (λ operand. pure (PrefixOp (place tokens) operator operand))) tokens why rest h
         (too_deep_here (expr_completed scope level k) (subst (ExprBegun scope level (place tokens)) (sym next) (prefix_begun scope level low_level (place tokens) operator)))
         (λ some h. into (in_prefix scope level (place tokens) operator low_level) (omega arith) is
         (viable.expr scope (operand_level operator) (tail tokens) rest why (low_operand operator) some
-        (given_stopped (low.expr scope (operand_level operator) (tail tokens)) (λ operand. Prefix' (place tokens) operator operand) why rest h)))
+        (given_stopped (low.expr scope (operand_level operator) (tail tokens)) (λ operand. PrefixOp (place tokens) operator operand) why rest h)))
 
-    unary_by_viable : (o : Option Body) → seen tokens ≡ o → unary_by k low scope level (place tokens) o tokens ≡ Stopped why rest → StopsAt why rest
-    unary_by_viable (Some (body.Number number)) is h = primary_viable (Const (place tokens) (constant.Number number)) (tail tokens) (spelt_at tokens (body.Number number) is) tt refl h
-    unary_by_viable (Some (body.Character value wide)) is h = primary_viable (Const (place tokens) (constant.Character value wide)) (tail tokens) (spelt_at tokens (body.Character value wide) is) tt refl h
-    unary_by_viable (Some (body.Literal units wide)) is h = text_viable units wide is h
-    unary_by_viable (Some (body.Name x)) is h =
+    unary_by_viable : (o : Option Body) → next_body tokens ≡ o → unary_by k low scope level (place tokens) o tokens ≡ Stopped why rest → StopsAt why rest
+    unary_by_viable (Some (lexeme.Number number)) is h = primary_viable (Const (place tokens) (constant.Number number)) (tail tokens) (spelt_at tokens (lexeme.Number number) is) tt refl h
+    unary_by_viable (Some (lexeme.Character value wide)) is h = primary_viable (Const (place tokens) (constant.Character value wide)) (tail tokens) (spelt_at tokens (lexeme.Character value wide) is) tt refl h
+    unary_by_viable (Some (lexeme.Literal units wide)) is h = text_viable units wide is h
+    unary_by_viable (Some (lexeme.Name x)) is h =
         elim (chosen (is_type scope x) _ _ tokens (Stopped why rest) h) [
           | inl y ↦ stopped StopsAt y.1 nothing_refused
-          | inr y ↦ primary_viable (Id (place tokens) x) (tail tokens) (spelt_at tokens (body.Name x) is) y.0 refl y.1
+          | inr y ↦ primary_viable (Id (place tokens) x) (tail tokens) (spelt_at tokens (lexeme.Name x) is) y.0 refl y.1
         ]
-    unary_by_viable (Some (body.Word w.Sizeof)) is h =
+    unary_by_viable (Some (lexeme.Word w.Sizeof)) is h =
         deeper_stopped StopsAt k (λ ts. size k low scope (place tokens) (tail ts)) tokens why rest h (started_deep (ap (begins_expr scope) is))
         (λ some h. size_viable scope level low_level tokens rest why some is h)
-    unary_by_viable (Some (body.Word w.Alignof)) is h =
+    unary_by_viable (Some (lexeme.Word w.Alignof)) is h =
         deeper_stopped StopsAt k (λ ts. alignment k low scope (place tokens) (tail ts)) tokens why rest h (started_deep (ap (begins_expr scope) is))
         (λ some h. alignment_viable scope level low_level tokens rest why some is h)
-    unary_by_viable (Some (body.Mark p.OpenParen)) is h =
+    unary_by_viable (Some (lexeme.Mark p.OpenParen)) is h =
         deeper_stopped StopsAt k (λ ts. inside k low scope level (place tokens) (tail ts)) tokens why rest h (started_deep (ap (begins_expr scope) is))
         (λ some h. inside_viable scope level low_level tokens rest why some is h)
-    unary_by_viable o is h = prefixed_viable (prefix_of o) (ap prefix_of is) h
+    unary_by_viable o is h = prefix_expr_viable (prefix_of o) (ap prefix_of is) h
 
     pub unary_viable : unary_at k low scope level tokens ≡ Stopped why rest → StopsAt why rest
     unfolding unary_at
-    unary_viable h = unary_by_viable (seen tokens) refl h
+    unary_viable h = unary_by_viable (next_body tokens) refl h

@@ -1,7 +1,7 @@
 -- The height of a node: 1 without parts, else one more than the highest of its parts. Lists, the words of specifiers and
 -- an omitted identifier are no nodes.
 use Rattle.std.specs.Prelude.{ℕ, suc, max}
-use Rattle.c_syntax.specs.Tree.{Expr, Const, Id, Text, Paren, Index, Call, Member, Postfix', Prefix', Measure', Cast, Infix', Cond, Exprs, NoExpr, MoreExprs, Maybe, Without, With, TypeName, Type', Specifier, Storage', Qualifier', Inline, BasicWord', CompoundTag, Compound, EnumTag, Enum, TypedefName, Specifiers, NoSpecifier, MoreSpecifiers, MemberDeclaration, Declares, Members, NoMember, MoreMembers, Declarators, NoDeclarator, MoreDeclarators, Enumerator, Enumerates, Enumerators, NoEnumerator, MoreEnumerators, Declarator, Omitted, Name, DParen, PointerTo, ArrayOf, FunctionOf, Parameter, Param, Parameters, NoParameter, MoreParameters}
+use Rattle.c_syntax.specs.Tree.{Expr, Const, Id, Text, Paren, Index, Call, Member, PostfixOp, PrefixOp, MeasureOp, Cast, InfixOp, Cond, Exprs, NoExpr, MoreExprs, Maybe, Without, With, TypeName, NamedType, Specifier, StorageClass, TypeQualifier, Inline, BasicType, CompoundTag, Compound, EnumTag, Enum, TypedefName, Specifiers, NoSpecifier, MoreSpecifiers, MemberDeclaration, Declares, Members, NoMember, MoreMembers, Declarators, NoDeclarator, MoreDeclarators, Enumerator, Enumerates, Enumerators, NoEnumerator, MoreEnumerators, Declarator, Omitted, Name, DParen, PointerTo, ArrayOf, FunctionOf, Parameter, Param, Parameters, NoParameter, MoreParameters}
 
 abbrev mutual
   pub height : Expr → ℕ
@@ -12,11 +12,11 @@ abbrev mutual
   height (Index pos array index) = suc (max (height array) (height index))
   height (Call pos function arguments) = suc (max (height function) (exprs_height arguments))
   height (Member pos access whole name) = suc (height whole)
-  height (Postfix' pos operator operand) = suc (height operand)
-  height (Prefix' pos operator operand) = suc (height operand)
-  height (Measure' pos operator type) = suc (type_name_height type)
+  height (PostfixOp pos operator operand) = suc (height operand)
+  height (PrefixOp pos operator operand) = suc (height operand)
+  height (MeasureOp pos operator type) = suc (type_name_height type)
   height (Cast pos type operand) = suc (max (type_name_height type) (height operand))
-  height (Infix' pos operator left right) = suc (max (height left) (height right))
+  height (InfixOp pos operator left right) = suc (max (height left) (height right))
   height (Cond pos test then else) = suc (max (height test) (max (height then) (height else)))
 
   pub exprs_height : Exprs → ℕ
@@ -28,14 +28,14 @@ abbrev mutual
   maybe_height (With expr) = height expr
 
   pub type_name_height : TypeName → ℕ
-  type_name_height (Type' specifiers declarator) =
+  type_name_height (NamedType specifiers declarator) =
       suc (max (specifiers_height specifiers) (declarator_height declarator))
 
   pub specifier_height : Specifier → ℕ
-  specifier_height (Storage' pos word) = 0
-  specifier_height (Qualifier' pos word) = 0
+  specifier_height (StorageClass pos word) = 0
+  specifier_height (TypeQualifier pos word) = 0
   specifier_height (Inline pos) = 0
-  specifier_height (BasicWord' pos word) = 0
+  specifier_height (BasicType pos word) = 0
   specifier_height (CompoundTag pos word tag) = 1
   specifier_height (Compound pos word tag members) = suc (members_height members)
   specifier_height (EnumTag pos tag) = 1

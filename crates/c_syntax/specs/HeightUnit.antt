@@ -2,7 +2,7 @@
 use Rattle.std.specs.Prelude.{ℕ, suc, max, List, [], ◌∷◌, Option, Some, None}
 use Rattle.c_syntax.specs.Tree.{Expr}
 use Rattle.c_syntax.specs.Height.{height, specifiers_height, declarator_height}
-use Rattle.c_syntax.specs.TreeUnit.{Initializer, Single, Braces, Item, Plain, ForMember, ForIndex, Items, NoItem, MoreItems, InitDeclarator, Declaration, Assert, ForInit, WithDeclaration, WithExpression, Statement, Block, ExprStmt, If, IfElse, Switch, While, Do, For, Break, Continue, Return, BlockItem, Declared, Asserted, Done, BlockItems, NoBlockItem, MoreBlockItems, SwitchItem, Case, Default, Within, SwitchItems, NoSwitchItem, MoreSwitchItems, Function, External, Defines, Declaring, Asserting, Tree}
+use Rattle.c_syntax.specs.TreeUnit.{Initializer, Single, Braces, Item, Plain, ForMember, ForIndex, Items, NoItem, MoreItems, InitDeclarator, Declaration, Assert, ForInit, WithDeclaration, WithExpression, Statement, Block, ExprStmt, If, IfElse, Switch, While, Do, For, Break, Continue, Return, BlockItem, Declared, Asserted, Executes, BlockItems, NoBlockItem, MoreBlockItems, SwitchItem, Case, Default, InBlock, SwitchItems, NoSwitchItem, MoreSwitchItems, Function, External, Defines, Declaring, Asserting, Tree}
 
 -- an initializer that is an expression is no other node
 abbrev mutual
@@ -51,10 +51,10 @@ abbrev mutual
   statement_height (IfElse pos test then else) =
       suc (max (height test) (max (statement_height then) (statement_height else)))
   statement_height (Switch pos test items) = suc (max (height test) (switch_items_height items))
-  statement_height (While pos test turn) = suc (max (height test) (statement_height turn))
-  statement_height (Do pos turn test) = suc (max (statement_height turn) (height test))
-  statement_height (For pos init test step turn) =
-      suc (max (for_init_height init) (max (optional_height test) (max (optional_height step) (statement_height turn))))
+  statement_height (While pos test body) = suc (max (height test) (statement_height body))
+  statement_height (Do pos body test) = suc (max (statement_height body) (height test))
+  statement_height (For pos init test step body) =
+      suc (max (for_init_height init) (max (optional_height test) (max (optional_height step) (statement_height body))))
   statement_height (Break pos) = 1
   statement_height (Continue pos) = 1
   statement_height (Return pos value) = suc (optional_height value)
@@ -62,7 +62,7 @@ abbrev mutual
   pub block_item_height : BlockItem → ℕ
   block_item_height (Declared declaration) = declaration_height declaration
   block_item_height (Asserted assert) = assert_height assert
-  block_item_height (Done statement) = statement_height statement
+  block_item_height (Executes statement) = statement_height statement
 
   pub block_items_height : BlockItems → ℕ
   block_items_height NoBlockItem = 0
@@ -71,7 +71,7 @@ abbrev mutual
   pub switch_item_height : SwitchItem → ℕ
   switch_item_height (Case pos value) = suc (height value)
   switch_item_height (Default pos) = 1
-  switch_item_height (Within item) = block_item_height item
+  switch_item_height (InBlock item) = block_item_height item
 
   pub switch_items_height : SwitchItems → ℕ
   switch_items_height NoSwitchItem = 0

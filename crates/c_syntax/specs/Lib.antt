@@ -16,7 +16,7 @@ pub mod WellFormedUnit
 pub mod Begin
 pub mod Parsing
 pub mod First
-pub mod Reader
+pub mod Parser
 pub mod ReadToken
 pub mod ReadExpr
 pub mod ReadDeclarator

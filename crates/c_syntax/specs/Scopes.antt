@@ -3,7 +3,7 @@
 use Rattle.std.specs.Prelude.{ℕ, Bool, true, false, cond, List, [], ◌∷◌, ◌++◌, map, codes, Option, Some, None}
 use Rattle.std.specs.Str.{bytes_eq}
 use Rattle.c_syntax.specs.declared.specifier.Storage.TheVariants as storage
-use Rattle.c_syntax.specs.Tree.{Expr, Const, Id, Text, Paren, Index, Call, Member, Postfix', Prefix', Measure', Cast, Infix', Cond, Exprs, NoExpr, MoreExprs, Maybe, Without, With, TypeName, Type', Specifier, Storage', Qualifier', Inline, BasicWord', CompoundTag, Compound, EnumTag, Enum, TypedefName, Specifiers, NoSpecifier, MoreSpecifiers, MemberDeclaration, Declares, Members, NoMember, MoreMembers, Declarators, NoDeclarator, MoreDeclarators, Enumerator, Enumerates, Enumerators, NoEnumerator, MoreEnumerators, Declarator, Omitted, Name, DParen, PointerTo, ArrayOf, FunctionOf, Parameter, Param, Parameters, NoParameter, MoreParameters}
+use Rattle.c_syntax.specs.Tree.{Expr, Const, Id, Text, Paren, Index, Call, Member, PostfixOp, PrefixOp, MeasureOp, Cast, InfixOp, Cond, Exprs, NoExpr, MoreExprs, Maybe, Without, With, TypeName, NamedType, Specifier, StorageClass, TypeQualifier, Inline, BasicType, CompoundTag, Compound, EnumTag, Enum, TypedefName, Specifiers, NoSpecifier, MoreSpecifiers, MemberDeclaration, Declares, Members, NoMember, MoreMembers, Declarators, NoDeclarator, MoreDeclarators, Enumerator, Enumerates, Enumerators, NoEnumerator, MoreEnumerators, Declarator, Omitted, Name, DParen, PointerTo, ArrayOf, FunctionOf, Parameter, Param, Parameters, NoParameter, MoreParameters}
 
 -- a declared name, and whether it names a type
 pub record DeclaredName : Type 0 where
@@ -49,7 +49,7 @@ predeclared = map (λ x. record { name = x; names_type = true }) (
 -- int static typedef T; declares a typedef name, wherever the word stands (6.7.8)
 abbrev pub names_types : Specifiers → Bool
 names_types NoSpecifier = false
-names_types (MoreSpecifiers (Storage' pos storage.Typedef) rest) = true
+names_types (MoreSpecifiers (StorageClass pos storage.Typedef) rest) = true
 names_types (MoreSpecifiers first rest) = names_types rest
 
 -- the identifier that a declarator declares (6.7.6)
@@ -80,11 +80,11 @@ abbrev mutual
   expr_adds (Index pos array index) = expr_adds array ++ expr_adds index
   expr_adds (Call pos function arguments) = expr_adds function ++ exprs_add arguments
   expr_adds (Member pos access whole x) = expr_adds whole
-  expr_adds (Postfix' pos operator operand) = expr_adds operand
-  expr_adds (Prefix' pos operator operand) = expr_adds operand
-  expr_adds (Measure' pos operator type) = type_name_adds type
+  expr_adds (PostfixOp pos operator operand) = expr_adds operand
+  expr_adds (PrefixOp pos operator operand) = expr_adds operand
+  expr_adds (MeasureOp pos operator type) = type_name_adds type
   expr_adds (Cast pos type operand) = type_name_adds type ++ expr_adds operand
-  expr_adds (Infix' pos operator left right) = expr_adds left ++ expr_adds right
+  expr_adds (InfixOp pos operator left right) = expr_adds left ++ expr_adds right
   expr_adds (Cond pos test then else) = expr_adds test ++ expr_adds then ++ expr_adds else
 
   pub exprs_add : Exprs → Scope
@@ -96,13 +96,13 @@ abbrev mutual
   maybe_adds (With expr) = expr_adds expr
 
   pub type_name_adds : TypeName → Scope
-  type_name_adds (Type' specifiers declarator) = specifiers_add specifiers ++ declarator_adds declarator
+  type_name_adds (NamedType specifiers declarator) = specifiers_add specifiers ++ declarator_adds declarator
 
   pub specifier_adds : Specifier → Scope
-  specifier_adds (Storage' pos word) = []
-  specifier_adds (Qualifier' pos word) = []
+  specifier_adds (StorageClass pos word) = []
+  specifier_adds (TypeQualifier pos word) = []
   specifier_adds (Inline pos) = []
-  specifier_adds (BasicWord' pos word) = []
+  specifier_adds (BasicType pos word) = []
   specifier_adds (CompoundTag pos word tag) = []
   specifier_adds (Compound pos word tag members) = members_add members
   specifier_adds (EnumTag pos tag) = []

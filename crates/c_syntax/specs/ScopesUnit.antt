@@ -2,7 +2,7 @@
 use Rattle.std.specs.Prelude.{Bool, true, false, cond, List, [], ◌∷◌, ◌++◌, Option, Some, None}
 use Rattle.c_syntax.specs.Tree.{Expr, Declarator, Omitted, Name, DParen, PointerTo, ArrayOf, FunctionOf, Parameters}
 use Rattle.c_syntax.specs.Scopes.{Scope, names_types, own_name, declared_if, declared_by, expr_adds, specifiers_add, declarator_adds, parameters_add}
-use Rattle.c_syntax.specs.TreeUnit.{Initializer, Single, Braces, Item, Plain, ForMember, ForIndex, Items, NoItem, MoreItems, InitDeclarator, Declaration, ForInit, WithDeclaration, WithExpression, Statement, Block, ExprStmt, If, IfElse, Switch, While, Do, For, Break, Continue, Return, BlockItem, Declared, Asserted, Done, SwitchItem, Case, Default, Within, Function, External, Defines, Declaring, Asserting}
+use Rattle.c_syntax.specs.TreeUnit.{Initializer, Single, Braces, Item, Plain, ForMember, ForIndex, Items, NoItem, MoreItems, InitDeclarator, Declaration, ForInit, WithDeclaration, WithExpression, Statement, Block, ExprStmt, If, IfElse, Switch, While, Do, For, Break, Continue, Return, BlockItem, Declared, Asserted, Executes, SwitchItem, Case, Default, InBlock, Function, External, Defines, Declaring, Asserting}
 
 abbrev mutual
   pub initializer_adds : Initializer → Scope
@@ -50,9 +50,9 @@ statement_adds (ExprStmt expr) = optional_adds expr
 statement_adds (If pos test then) = []
 statement_adds (IfElse pos test then else) = []
 statement_adds (Switch pos test items) = []
-statement_adds (While pos test turn) = []
-statement_adds (Do pos turn test) = []
-statement_adds (For pos init test step turn) = []
+statement_adds (While pos test body) = []
+statement_adds (Do pos body test) = []
+statement_adds (For pos init test step body) = []
 statement_adds (Break pos) = []
 statement_adds (Continue pos) = []
 statement_adds (Return pos value) = optional_adds value
@@ -60,12 +60,12 @@ statement_adds (Return pos value) = optional_adds value
 abbrev pub block_item_adds : BlockItem → Scope
 block_item_adds (Declared declaration) = declaration_adds declaration
 block_item_adds (Asserted assert) = expr_adds assert.condition
-block_item_adds (Done statement) = statement_adds statement
+block_item_adds (Executes statement) = statement_adds statement
 
 abbrev pub switch_item_adds : SwitchItem → Scope
 switch_item_adds (Case pos value) = expr_adds value
 switch_item_adds (Default pos) = []
-switch_item_adds (Within item) = block_item_adds item
+switch_item_adds (InBlock item) = block_item_adds item
 
 -- ---- functions (6.9.1)
 

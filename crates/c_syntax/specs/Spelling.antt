@@ -5,9 +5,9 @@ use Rattle.c_lexer.specs.declared.word.Word.TheVariants as w
 use Rattle.c_syntax.specs.declared.specifier.Tag.{Tag}
 use Rattle.c_syntax.specs.declared.specifier.Qualifier.{Qualifier}
 use Rattle.c_syntax.specs.declared.spelled.Spelled.{Spelled}
-use Rattle.c_syntax.specs.Tokens.{placed, word, word_at, mark, mark_at, name, name_at, commas, comma_if, ellipsis_if, spell_pieces}
+use Rattle.c_syntax.specs.Tokens.{token_at, word, word_at, mark, mark_at, name, name_at, commas, comma_if, ellipsis_if, spell_pieces}
 use Rattle.c_syntax.specs.Operators.{constant_token, access_token, postfix_token, prefix_token, measure_word, infix_token, storage_word, qualifier_word, basic_word, compound_word}
-use Rattle.c_syntax.specs.Tree.{Expr, Const, Id, Text, Paren, Index, Call, Member, Postfix', Prefix', Measure', Cast, Infix', Cond, Exprs, NoExpr, MoreExprs, Maybe, Without, With, TypeName, Type', Specifier, Storage', Qualifier', Inline, BasicWord', CompoundTag, Compound, EnumTag, Enum, TypedefName, Specifiers, NoSpecifier, MoreSpecifiers, MemberDeclaration, Declares, Members, NoMember, MoreMembers, Declarators, NoDeclarator, MoreDeclarators, Enumerator, Enumerates, Enumerators, NoEnumerator, MoreEnumerators, Declarator, Omitted, Name, DParen, PointerTo, ArrayOf, FunctionOf, Parameter, Param, Parameters, NoParameter, MoreParameters}
+use Rattle.c_syntax.specs.Tree.{Expr, Const, Id, Text, Paren, Index, Call, Member, PostfixOp, PrefixOp, MeasureOp, Cast, InfixOp, Cond, Exprs, NoExpr, MoreExprs, Maybe, Without, With, TypeName, NamedType, Specifier, StorageClass, TypeQualifier, Inline, BasicType, CompoundTag, Compound, EnumTag, Enum, TypedefName, Specifiers, NoSpecifier, MoreSpecifiers, MemberDeclaration, Declares, Members, NoMember, MoreMembers, Declarators, NoDeclarator, MoreDeclarators, Enumerator, Enumerates, Enumerators, NoEnumerator, MoreEnumerators, Declarator, Omitted, Name, DParen, PointerTo, ArrayOf, FunctionOf, Parameter, Param, Parameters, NoParameter, MoreParameters}
 
 abbrev pub spell_tag : Option Tag → List Spelled
 spell_tag None = []
@@ -20,7 +20,7 @@ spell_qualifiers qualifiers = map (λ qualifier. word (qualifier_word qualifier)
 abbrev mutual
   -- 6.5
   pub spell : Expr → List Spelled
-  spell (Const pos constant) = placed pos (constant_token constant) ∷ []
+  spell (Const pos constant) = token_at pos (constant_token constant) ∷ []
   spell (Id pos x) = name_at pos x ∷ []
   spell (Text pos text) = spell_pieces (Some pos) text.wide text.pieces
   spell (Paren inner) = mark p.OpenParen ∷ spell inner ++ mark p.CloseParen ∷ []
@@ -28,13 +28,13 @@ abbrev mutual
   spell (Call pos function arguments) =
       spell function ++ mark_at pos p.OpenParen ∷ commas (spelled_arguments arguments) ++ mark p.CloseParen ∷ []
   spell (Member pos access whole x) = spell whole ++ mark_at pos (access_token access) ∷ name x ∷ []
-  spell (Postfix' pos operator operand) = spell operand ++ mark_at pos (postfix_token operator) ∷ []
-  spell (Prefix' pos operator operand) = placed pos (prefix_token operator) ∷ spell operand
-  spell (Measure' pos operator type) =
+  spell (PostfixOp pos operator operand) = spell operand ++ mark_at pos (postfix_token operator) ∷ []
+  spell (PrefixOp pos operator operand) = token_at pos (prefix_token operator) ∷ spell operand
+  spell (MeasureOp pos operator type) =
       word_at pos (measure_word operator) ∷ mark p.OpenParen ∷ spell_type_name type ++ mark p.CloseParen ∷ []
   spell (Cast pos type operand) =
       mark_at pos p.OpenParen ∷ spell_type_name type ++ mark p.CloseParen ∷ spell operand
-  spell (Infix' pos operator left right) = spell left ++ mark_at pos (infix_token operator) ∷ spell right
+  spell (InfixOp pos operator left right) = spell left ++ mark_at pos (infix_token operator) ∷ spell right
   spell (Cond pos test then else) =
       spell test ++ mark_at pos p.Question ∷ spell then ++ mark p.Colon ∷ spell else
 
@@ -49,14 +49,14 @@ abbrev mutual
 
   -- 6.7.7
   pub spell_type_name : TypeName → List Spelled
-  spell_type_name (Type' specifiers declarator) = spell_specifiers specifiers ++ spell_declarator declarator
+  spell_type_name (NamedType specifiers declarator) = spell_specifiers specifiers ++ spell_declarator declarator
 
   -- 6.7.1 to 6.7.4, 6.7.8
   pub spell_specifier : Specifier → List Spelled
-  spell_specifier (Storage' pos storage) = word_at pos (storage_word storage) ∷ []
-  spell_specifier (Qualifier' pos qualifier) = word_at pos (qualifier_word qualifier) ∷ []
+  spell_specifier (StorageClass pos storage) = word_at pos (storage_word storage) ∷ []
+  spell_specifier (TypeQualifier pos qualifier) = word_at pos (qualifier_word qualifier) ∷ []
   spell_specifier (Inline pos) = word_at pos w.Inline ∷ []
-  spell_specifier (BasicWord' pos basic) = word_at pos (basic_word basic) ∷ []
+  spell_specifier (BasicType pos basic) = word_at pos (basic_word basic) ∷ []
   spell_specifier (CompoundTag pos compound tag) =
       word_at pos (compound_word compound) ∷ name_at tag.pos tag.name ∷ []
   spell_specifier (Compound pos compound tag members) =

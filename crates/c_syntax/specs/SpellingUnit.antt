@@ -8,7 +8,7 @@ use Rattle.c_syntax.specs.declared.spelled.Spelled.{Spelled}
 use Rattle.c_syntax.specs.Tokens.{word, word_at, mark, mark_at, name, commas, comma_if, spell_pieces}
 use Rattle.c_syntax.specs.Tree.{Expr}
 use Rattle.c_syntax.specs.Spelling.{spell, spell_specifiers, spell_declarator}
-use Rattle.c_syntax.specs.TreeUnit.{Initializer, Single, Braces, Item, Plain, ForMember, ForIndex, Items, NoItem, MoreItems, InitDeclarator, Declaration, Assert, ForInit, WithDeclaration, WithExpression, Statement, Block, ExprStmt, If, IfElse, Switch, While, Do, For, Break, Continue, Return, BlockItem, Declared, Asserted, Done, BlockItems, NoBlockItem, MoreBlockItems, SwitchItem, Case, Default, Within, SwitchItems, NoSwitchItem, MoreSwitchItems, Function, External, Defines, Declaring, Asserting, Tree}
+use Rattle.c_syntax.specs.TreeUnit.{Initializer, Single, Braces, Item, Plain, ForMember, ForIndex, Items, NoItem, MoreItems, InitDeclarator, Declaration, Assert, ForInit, WithDeclaration, WithExpression, Statement, Block, ExprStmt, If, IfElse, Switch, While, Do, For, Break, Continue, Return, BlockItem, Declared, Asserted, Executes, BlockItems, NoBlockItem, MoreBlockItems, SwitchItem, Case, Default, InBlock, SwitchItems, NoSwitchItem, MoreSwitchItems, Function, External, Defines, Declaring, Asserting, Tree}
 
 abbrev mutual
   -- 6.7.9
@@ -77,10 +77,10 @@ abbrev mutual
   spell_statement (Switch pos test items) =
       word_at pos w.Switch ∷ spell_controlling test
       ++ mark p.OpenBrace ∷ spell_switch_items items ++ mark p.CloseBrace ∷ []
-  spell_statement (While pos test turn) = word_at pos w.While ∷ spell_controlling test ++ spell_statement turn
-  spell_statement (Do pos turn test) =
-      word_at pos w.Do ∷ spell_statement turn ++ word w.While ∷ spell_controlling test ++ mark p.Semicolon ∷ []
-  spell_statement (For pos init test step turn) = spell_for_head pos init test step ++ spell_statement turn
+  spell_statement (While pos test body) = word_at pos w.While ∷ spell_controlling test ++ spell_statement body
+  spell_statement (Do pos body test) =
+      word_at pos w.Do ∷ spell_statement body ++ word w.While ∷ spell_controlling test ++ mark p.Semicolon ∷ []
+  spell_statement (For pos init test step body) = spell_for_head pos init test step ++ spell_statement body
   spell_statement (Break pos) = word_at pos w.Break ∷ mark p.Semicolon ∷ []
   spell_statement (Continue pos) = word_at pos w.Continue ∷ mark p.Semicolon ∷ []
   spell_statement (Return pos value) = word_at pos w.Return ∷ spell_optional value ++ mark p.Semicolon ∷ []
@@ -89,7 +89,7 @@ abbrev mutual
   pub spell_block_item : BlockItem → List Spelled
   spell_block_item (Declared declaration) = spell_declaration declaration
   spell_block_item (Asserted assert) = spell_assert assert
-  spell_block_item (Done statement) = spell_statement statement
+  spell_block_item (Executes statement) = spell_statement statement
 
   pub spell_block_items : BlockItems → List Spelled
   spell_block_items NoBlockItem = []
@@ -99,7 +99,7 @@ abbrev mutual
   pub spell_switch_item : SwitchItem → List Spelled
   spell_switch_item (Case pos value) = word_at pos w.Case ∷ spell value ++ mark p.Colon ∷ []
   spell_switch_item (Default pos) = word_at pos w.Default ∷ mark p.Colon ∷ []
-  spell_switch_item (Within item) = spell_block_item item
+  spell_switch_item (InBlock item) = spell_block_item item
 
   pub spell_switch_items : SwitchItems → List Spelled
   spell_switch_items NoSwitchItem = []

@@ -9,7 +9,7 @@ use Rattle.c_syntax.specs.declared.specifier.Specifier as s
 use Rattle.c_syntax.specs.declared.specifier.MemberDeclaration as m
 use Rattle.c_syntax.specs.declared.specifier.Enumerator as n
 use Rattle.c_syntax.specs.declared.type_name.TypeName as t
-use Rattle.c_syntax.specs.Tree.{ArrayOf, BasicWord', Call, Cast, Compound, CompoundTag, Cond, Const, DParen, Declarator, Declarators, Declares, Enum, EnumTag, Enumerates, Enumerator, Enumerators, Expr, Exprs, FunctionOf, Id, Index, Infix', Inline, Literals, Maybe, Measure', Member, MemberDeclaration, Members, MoreDeclarators, MoreEnumerators, MoreExprs, MoreMembers, MoreParameters, MoreSpecifiers, Name, NoDeclarator, NoEnumerator, NoExpr, NoMember, NoParameter, NoSpecifier, Omitted, Param, Parameter, Parameters, Paren, PointerTo, Postfix', Prefix', Qualifier', Specifier, Specifiers, Storage', Text, Type', TypeName, TypedefName, With, Without}
+use Rattle.c_syntax.specs.Tree.{ArrayOf, BasicType, Call, Cast, Compound, CompoundTag, Cond, Const, DParen, Declarator, Declarators, Declares, Enum, EnumTag, Enumerates, Enumerator, Enumerators, Expr, Exprs, FunctionOf, Id, Index, InfixOp, Inline, Literals, Maybe, MeasureOp, Member, MemberDeclaration, Members, MoreDeclarators, MoreEnumerators, MoreExprs, MoreMembers, MoreParameters, MoreSpecifiers, Name, NoDeclarator, NoEnumerator, NoExpr, NoMember, NoParameter, NoSpecifier, Omitted, Param, Parameter, Parameters, Paren, PointerTo, PostfixOp, PrefixOp, TypeQualifier, Specifier, Specifiers, StorageClass, Text, NamedType, TypeName, TypedefName, With, Without}
 
 abbrev pub literals_of : code.Literals → Literals
 literals_of text = record { pieces = text.units.items; wide = text.wide }
@@ -23,13 +23,13 @@ abbrev mutual
   expr_of (e.Index' pos _ array _ index) = Index pos (expr_of array) (expr_of index)
   expr_of (e.Call' pos _ function _ arguments) = Call pos (expr_of function) (exprs_row arguments)
   expr_of (e.Member' pos access _ whole name) = Member pos access (expr_of whole) name
-  expr_of (e.Postfix' pos operator _ operand) = Postfix' pos operator (expr_of operand)
-  expr_of (e.Prefix' pos operator _ operand) = Prefix' pos operator (expr_of operand)
+  expr_of (e.Postfix' pos operator _ operand) = PostfixOp pos operator (expr_of operand)
+  expr_of (e.Prefix' pos operator _ operand) = PrefixOp pos operator (expr_of operand)
   expr_of (e.Measure' pos operator _ _ specifiers declarator) =
-      Measure' pos operator (Type' (specifiers_row specifiers) (declarator_of declarator))
+      MeasureOp pos operator (NamedType (specifiers_row specifiers) (declarator_of declarator))
   expr_of (e.Cast' pos _ _ specifiers declarator _ operand) =
-      Cast pos (Type' (specifiers_row specifiers) (declarator_of declarator)) (expr_of operand)
-  expr_of (e.Infix' pos operator _ left _ right) = Infix' pos operator (expr_of left) (expr_of right)
+      Cast pos (NamedType (specifiers_row specifiers) (declarator_of declarator)) (expr_of operand)
+  expr_of (e.Infix' pos operator _ left _ right) = InfixOp pos operator (expr_of left) (expr_of right)
   expr_of (e.Cond' pos _ test _ then _ else) = Cond pos (expr_of test) (expr_of then) (expr_of else)
 
   pub exprs_row : {count : _} → e.Row_of-Expr count → Exprs
@@ -59,10 +59,10 @@ abbrev mutual
       MoreParameters (Param (specifiers_row specifiers) (declarator_of declarator)) (parameters_row rest)
 
   pub specifier_of : s.Specifier → Specifier
-  specifier_of (s.Storage pos word) = Storage' pos word
-  specifier_of (s.Qualifier pos word) = Qualifier' pos word
+  specifier_of (s.Storage pos word) = StorageClass pos word
+  specifier_of (s.Qualifier pos word) = TypeQualifier pos word
   specifier_of (s.Inline pos) = Inline pos
-  specifier_of (s.BasicWord pos word) = BasicWord' pos word
+  specifier_of (s.BasicWord pos word) = BasicType pos word
   specifier_of (s.CompoundTag pos word tag) = CompoundTag pos word tag
   specifier_of (s.Compound' pos word tag _ members) = Compound pos word tag (members_row members)
   specifier_of (s.EnumTag pos tag) = EnumTag pos tag
@@ -113,7 +113,7 @@ abbrev pub specifiers_of : List s.Specifier → Specifiers
 specifiers_of all = specifiers (map specifier_of all)
 
 abbrev pub type_name_of : t.TypeName → TypeName
-type_name_of type = Type' (specifiers_of type.specifiers.items) (declarator_of type.declarator)
+type_name_of type = NamedType (specifiers_of type.specifiers.items) (declarator_of type.declarator)
 
 abbrev pub parameter_of : p.Parameter → Parameter
 parameter_of parameter = Param (specifiers_of parameter.specifiers.items) (declarator_of parameter.declarator)

@@ -16,7 +16,7 @@ use Rattle.c_syntax.specs.declared.unit.External as x
 use Rattle.c_syntax.specs.declared.unit.External.TheVariants as external
 use Rattle.c_syntax.specs.declared.unit.Tree as t
 use Rattle.c_syntax.specs.View.{expr_of, declarator_of, specifiers_of, literals_of}
-use Rattle.c_syntax.specs.TreeUnit.{Initializer, Single, Braces, Item, Plain, ForMember, ForIndex, Items, NoItem, MoreItems, InitDeclarator, Declaration, Assert, ForInit, WithDeclaration, WithExpression, Statement, Block, ExprStmt, If, IfElse, Switch, While, Do, For, Break, Continue, Return, BlockItem, Declared, Asserted, Done, BlockItems, NoBlockItem, MoreBlockItems, SwitchItem, Case, Default, Within, SwitchItems, NoSwitchItem, MoreSwitchItems, Function, External, Defines, Declaring, Asserting, Tree}
+use Rattle.c_syntax.specs.TreeUnit.{Initializer, Single, Braces, Item, Plain, ForMember, ForIndex, Items, NoItem, MoreItems, InitDeclarator, Declaration, Assert, ForInit, WithDeclaration, WithExpression, Statement, Block, ExprStmt, If, IfElse, Switch, While, Do, For, Break, Continue, Return, BlockItem, Declared, Asserted, Executes, BlockItems, NoBlockItem, MoreBlockItems, SwitchItem, Case, Default, InBlock, SwitchItems, NoSwitchItem, MoreSwitchItems, Function, External, Defines, Declaring, Asserting, Tree}
 
 abbrev mutual
   pub initializer_of : i.Initializer → Initializer
@@ -61,10 +61,10 @@ abbrev mutual
   statement_of (s.If' pos test _ then (s.Some' _ else)) =
       IfElse pos (expr_of test) (statement_of then) (statement_of else)
   statement_of (s.Switch' pos test _ items) = Switch pos (expr_of test) (switch_row items)
-  statement_of (s.While' pos test _ turn) = While pos (expr_of test) (statement_of turn)
-  statement_of (s.Do' pos _ turn test) = Do pos (statement_of turn) (expr_of test)
-  statement_of (s.For' pos init test step _ turn) =
-      For pos (for_init_of init) (option_map expr_of test) (option_map expr_of step) (statement_of turn)
+  statement_of (s.While' pos test _ body) = While pos (expr_of test) (statement_of body)
+  statement_of (s.Do' pos _ body test) = Do pos (statement_of body) (expr_of test)
+  statement_of (s.For' pos init test step _ body) =
+      For pos (for_init_of init) (option_map expr_of test) (option_map expr_of step) (statement_of body)
   statement_of (s.Break pos) = Break pos
   statement_of (s.Continue pos) = Continue pos
   statement_of (s.Return pos value) = Return pos (option_map expr_of value)
@@ -72,7 +72,7 @@ abbrev mutual
   pub block_item_of : b.BlockItem → BlockItem
   block_item_of (b.Declaration declaration) = Declared (declaration_of declaration)
   block_item_of (b.Assert assert) = Asserted (assert_of assert)
-  block_item_of (b.Statement statement) = Done (statement_of statement)
+  block_item_of (b.Statement statement) = Executes (statement_of statement)
 
   pub block_row : {count : _} → s.Row_of-BlockItem count → BlockItems
   block_row s.end_of-BlockItem = NoBlockItem
@@ -81,7 +81,7 @@ abbrev mutual
   pub switch_item_of : w.SwitchItem → SwitchItem
   switch_item_of (w.Case pos value) = Case pos (expr_of value)
   switch_item_of (w.Default pos) = Default pos
-  switch_item_of (w.Item item) = Within (block_item_of item)
+  switch_item_of (w.Item item) = InBlock (block_item_of item)
 
   pub switch_row : {count : _} → s.Row_of-SwitchItem count → SwitchItems
   switch_row s.end_of-SwitchItem = NoSwitchItem

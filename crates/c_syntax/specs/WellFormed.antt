@@ -4,7 +4,7 @@ use Rattle.std.specs.Prelude.{◌≡◌, ◌≤◌, ◌⊎◌, ℕ, suc, Bool, t
 use Rattle.std.specs.Option.{IsSome}
 use Rattle.c_syntax.specs.Levels.{expression, assignment, conditional, logical_or, cast, unary, postfix, infix_level, left_level, right_level, operand_level}
 use Rattle.c_syntax.specs.Scopes.{Scope, is_type, own_name, expr_adds, type_name_adds, specifier_adds, specifiers_add, member_adds, enumerator_adds, declarator_adds, parameter_adds}
-use Rattle.c_syntax.specs.Tree.{Literals, Expr, Const, Id, Text, Paren, Index, Call, Member, Postfix', Prefix', Measure', Cast, Infix', Cond, Exprs, NoExpr, MoreExprs, Maybe, Without, With, TypeName, Type', Specifier, Storage', Qualifier', Inline, BasicWord', CompoundTag, Compound, EnumTag, Enum, TypedefName, Specifiers, NoSpecifier, MoreSpecifiers, MemberDeclaration, Declares, Members, NoMember, MoreMembers, Declarators, NoDeclarator, MoreDeclarators, Enumerator, Enumerates, Enumerators, NoEnumerator, MoreEnumerators, Declarator, Omitted, Name, DParen, PointerTo, ArrayOf, FunctionOf, Parameter, Param, Parameters, NoParameter, MoreParameters}
+use Rattle.c_syntax.specs.Tree.{Literals, Expr, Const, Id, Text, Paren, Index, Call, Member, PostfixOp, PrefixOp, MeasureOp, Cast, InfixOp, Cond, Exprs, NoExpr, MoreExprs, Maybe, Without, With, TypeName, NamedType, Specifier, StorageClass, TypeQualifier, Inline, BasicType, CompoundTag, Compound, EnumTag, Enum, TypedefName, Specifiers, NoSpecifier, MoreSpecifiers, MemberDeclaration, Declares, Members, NoMember, MoreMembers, Declarators, NoDeclarator, MoreDeclarators, Enumerator, Enumerates, Enumerators, NoEnumerator, MoreEnumerators, Declarator, Omitted, Name, DParen, PointerTo, ArrayOf, FunctionOf, Parameter, Param, Parameters, NoParameter, MoreParameters}
 
 -- ---- what a node asks of its parts, apart from scopes
 
@@ -14,7 +14,7 @@ AreAdjacent text = text.pieces ≡ [] → ⊥
 
 abbrev pub basic_words : Specifiers → ℕ
 basic_words NoSpecifier = 0
-basic_words (MoreSpecifiers (BasicWord' pos word) rest) = suc (basic_words rest)
+basic_words (MoreSpecifiers (BasicType pos word) rest) = suc (basic_words rest)
 basic_words (MoreSpecifiers first rest) = basic_words rest
 
 -- structures, unions, enumerations and typedef names
@@ -103,12 +103,12 @@ abbrev mutual
   IsExpr (Call pos function arguments) scope level =
       (level ≤ postfix) × IsExpr function scope postfix × AreArguments arguments (scope ++ expr_adds function)
   IsExpr (Member pos access whole x) scope level = (level ≤ postfix) × IsExpr whole scope postfix
-  IsExpr (Postfix' pos operator operand) scope level = (level ≤ postfix) × IsExpr operand scope postfix
-  IsExpr (Prefix' pos operator operand) scope level = (level ≤ unary) × IsExpr operand scope (operand_level operator)
-  IsExpr (Measure' pos operator type) scope level = (level ≤ unary) × IsTypeName type scope
+  IsExpr (PostfixOp pos operator operand) scope level = (level ≤ postfix) × IsExpr operand scope postfix
+  IsExpr (PrefixOp pos operator operand) scope level = (level ≤ unary) × IsExpr operand scope (operand_level operator)
+  IsExpr (MeasureOp pos operator type) scope level = (level ≤ unary) × IsTypeName type scope
   IsExpr (Cast pos type operand) scope level =
       (level ≤ cast) × IsTypeName type scope × IsExpr operand (scope ++ type_name_adds type) cast
-  IsExpr (Infix' pos operator left right) scope level =
+  IsExpr (InfixOp pos operator left right) scope level =
       (level ≤ infix_level operator)
       × IsExpr left scope (left_level operator)
       × IsExpr right (scope ++ expr_adds left) (right_level operator)
@@ -125,12 +125,12 @@ abbrev mutual
       IsExpr first scope assignment × AreArguments rest (scope ++ expr_adds first)
 
   -- int a[(b = 1)] has a conditional expression between its brackets, int a[b = 1] none (6.6)
-  pub IsConstant : Maybe → Scope → Type 0
-  IsConstant Without scope = Unit {0}
-  IsConstant (With expr) scope = IsExpr expr scope conditional
+  pub IsAbsentOrConditional : Maybe → Scope → Type 0
+  IsAbsentOrConditional Without scope = Unit {0}
+  IsAbsentOrConditional (With expr) scope = IsExpr expr scope conditional
 
   pub IsTypeName : TypeName → Scope → Type 0
-  IsTypeName (Type' specifiers declarator) scope =
+  IsTypeName (NamedType specifiers declarator) scope =
       SpecifyOneType specifiers
       × AreSpecifiers specifiers scope
       × IsDeclarator declarator (scope ++ specifiers_add specifiers)
@@ -141,10 +141,10 @@ abbrev mutual
   AreSpecifiers (MoreSpecifiers first rest) scope = IsSpecifier first scope × AreSpecifiers rest (scope ++ specifier_adds first)
 
   pub IsSpecifier : Specifier → Scope → Type 0
-  IsSpecifier (Storage' pos word) scope = Unit {0}
-  IsSpecifier (Qualifier' pos word) scope = Unit {0}
+  IsSpecifier (StorageClass pos word) scope = Unit {0}
+  IsSpecifier (TypeQualifier pos word) scope = Unit {0}
   IsSpecifier (Inline pos) scope = Unit {0}
-  IsSpecifier (BasicWord' pos word) scope = Unit {0}
+  IsSpecifier (BasicType pos word) scope = Unit {0}
   IsSpecifier (CompoundTag pos word tag) scope = Unit {0}
   IsSpecifier (Compound pos word tag members) scope = HasMember members × AreMembers members scope
   IsSpecifier (EnumTag pos tag) scope = Unit {0}
@@ -167,7 +167,7 @@ abbrev mutual
       IsDeclarator first scope × DeclaresName first × AreDeclarators rest (scope ++ declarator_adds first)
 
   pub IsEnumerator : Enumerator → Scope → Type 0
-  IsEnumerator (Enumerates pos x value) scope = IsConstant value scope
+  IsEnumerator (Enumerates pos x value) scope = IsAbsentOrConditional value scope
 
   pub AreEnumerators : Enumerators → Scope → Type 0
   AreEnumerators NoEnumerator scope = Unit {0}
@@ -181,7 +181,7 @@ abbrev mutual
   IsDeclarator (DParen inner) scope = HasToken inner × IsDeclarator inner scope
   IsDeclarator (PointerTo qualifiers inner) scope = IsDeclarator inner scope
   IsDeclarator (ArrayOf inner length) scope =
-      IsDirect inner × IsDeclarator inner scope × IsConstant length (scope ++ declarator_adds inner)
+      IsDirect inner × IsDeclarator inner scope × IsAbsentOrConditional length (scope ++ declarator_adds inner)
   IsDeclarator (FunctionOf inner parameters variadic) scope =
       IsDirect inner
       × IsDeclarator inner scope

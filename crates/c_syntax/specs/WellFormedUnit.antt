@@ -7,7 +7,7 @@ use Rattle.c_syntax.specs.HeightUnit.{tree_height, greatest_height}
 use Rattle.c_syntax.specs.Scopes.{Scope, predeclared, names_types, own_name, declared_if, expr_adds, specifiers_add, declarator_adds}
 use Rattle.c_syntax.specs.ScopesUnit.{item_adds, init_adds, optional_adds, for_init_adds, block_item_adds, switch_item_adds, own_parameters, body_scope, external_adds}
 use Rattle.c_syntax.specs.WellFormed.{AreAdjacent, SpecifyOneType, DeclaresName, IsExpr, AreSpecifiers, IsDeclarator}
-use Rattle.c_syntax.specs.TreeUnit.{Initializer, Single, Braces, Item, Plain, ForMember, ForIndex, Items, NoItem, MoreItems, InitDeclarator, Declaration, Assert, ForInit, WithDeclaration, WithExpression, Statement, Block, ExprStmt, If, IfElse, Switch, While, Do, For, Break, Continue, Return, BlockItem, Declared, Asserted, Done, BlockItems, NoBlockItem, MoreBlockItems, SwitchItem, Case, Default, Within, SwitchItems, NoSwitchItem, MoreSwitchItems, Function, External, Defines, Declaring, Asserting, Tree}
+use Rattle.c_syntax.specs.TreeUnit.{Initializer, Single, Braces, Item, Plain, ForMember, ForIndex, Items, NoItem, MoreItems, InitDeclarator, Declaration, Assert, ForInit, WithDeclaration, WithExpression, Statement, Block, ExprStmt, If, IfElse, Switch, While, Do, For, Break, Continue, Return, BlockItem, Declared, Asserted, Executes, BlockItems, NoBlockItem, MoreBlockItems, SwitchItem, Case, Default, InBlock, SwitchItems, NoSwitchItem, MoreSwitchItems, Function, External, Defines, Declaring, Asserting, Tree}
 
 abbrev pub HasItem : Items → Type 0
 HasItem NoItem = ⊥
@@ -67,8 +67,8 @@ IsForInit (WithExpression expr) scope = IsOptional expr scope
 abbrev pub IsClosed : Statement → Type 0
 IsClosed (If pos test then) = ⊥
 IsClosed (IfElse pos test then else) = IsClosed else
-IsClosed (While pos test turn) = IsClosed turn
-IsClosed (For pos init test step turn) = IsClosed turn
+IsClosed (While pos test body) = IsClosed body
+IsClosed (For pos init test step body) = IsClosed body
 IsClosed _ = Unit {0}
 
 abbrev mutual
@@ -85,17 +85,17 @@ abbrev mutual
   -- labels stand directly in the block of a switch: switch (a) {case 1: b;}, but not switch (a) {{case 1: b;}}
   IsStatement (Switch pos test items) scope =
       IsExpr test scope expression × AreSwitchItems items (scope ++ expr_adds test)
-  IsStatement (While pos test turn) scope = IsExpr test scope expression × IsStatement turn (scope ++ expr_adds test)
+  IsStatement (While pos test body) scope = IsExpr test scope expression × IsStatement body (scope ++ expr_adds test)
   -- the body is a block of its own: do {int T;} while (sizeof(T)); where T is a type
-  IsStatement (Do pos turn test) scope = IsStatement turn scope × IsExpr test scope expression
+  IsStatement (Do pos body test) scope = IsStatement body scope × IsExpr test scope expression
   -- for (int T = 0; T; T++) T = 0; has expressions where T was a type before, and is one again behind
-  IsStatement (For pos init test step turn) scope =
+  IsStatement (For pos init test step body) scope =
       let tested = scope ++ for_init_adds init in
       let stepped = tested ++ optional_adds test in
       IsForInit init scope
       × IsOptional test tested
       × IsOptional step stepped
-      × IsStatement turn (stepped ++ optional_adds step)
+      × IsStatement body (stepped ++ optional_adds step)
   IsStatement (Break pos) scope = Unit {0}
   IsStatement (Continue pos) scope = Unit {0}
   IsStatement (Return pos value) scope = IsOptional value scope
@@ -103,7 +103,7 @@ abbrev mutual
   pub IsBlockItem : BlockItem → Scope → Type 0
   IsBlockItem (Declared declaration) scope = IsDeclaration declaration scope
   IsBlockItem (Asserted assert) scope = IsAssert assert scope
-  IsBlockItem (Done statement) scope = IsStatement statement scope
+  IsBlockItem (Executes statement) scope = IsStatement statement scope
 
   pub AreBlockItems : BlockItems → Scope → Type 0
   AreBlockItems NoBlockItem scope = Unit {0}
@@ -114,7 +114,7 @@ abbrev mutual
   pub IsSwitchItem : SwitchItem → Scope → Type 0
   IsSwitchItem (Case pos value) scope = IsExpr value scope conditional
   IsSwitchItem (Default pos) scope = Unit {0}
-  IsSwitchItem (Within item) scope = IsBlockItem item scope
+  IsSwitchItem (InBlock item) scope = IsBlockItem item scope
 
   pub AreSwitchItems : SwitchItems → Scope → Type 0
   AreSwitchItems NoSwitchItem scope = Unit {0}

@@ -58,7 +58,7 @@ pub fn height_law()
 /// Each unit has one tree, or is refused for one reason at one place, and not both.
 pub fn answer_law()
     ensures tree { (stream : Stream) (a b : Tree) → SpelledBy stream a → SpelledBy stream b → a ≡ b }
-    ensures refusal { (stream : Stream) (why why' : Refusal) (pos pos' : Pos) → RefusedAt stream why pos → RefusedAt stream why' pos' → (why ≡ why') × (pos ≡ pos') }
+    ensures refusal { (stream : Stream) (why other_why : Refusal) (pos other_pos : Pos) → RefusedAt stream why pos → RefusedAt stream other_why other_pos → (why ≡ other_why) × (pos ≡ other_pos) }
     ensures total { (stream : Stream) → ((tree : Tree) × SpelledBy stream tree) ⊎ ((why : Refusal) × (pos : Pos) × RefusedAt stream why pos) }
     ensures apart { (stream : Stream) (tree : Tree) (why : Refusal) (pos : Pos) → SpelledBy stream tree → RefusedAt stream why pos → ⊥ }
 {}

@@ -1,12 +1,12 @@
 //! The syntax of a unit of C (6.5 to 6.9): its tree, the tokens that spell a tree, which trees are well-formed, and the one
-//! tree or the one refused place of each list of tokens. The readers of specs/ tell what a list of tokens begins with.
+//! tree or the one refused place of each list of tokens. The parsers of specs/ tell what a list of tokens begins with.
 #![tactic(auto)]
 
-pub mod come;
+pub mod type_seen;
 pub mod declaration;
 pub mod declarator;
 pub mod expression;
-pub mod form;
+pub mod declarator_form;
 pub mod initializer;
 pub mod law;
 pub mod operator;
@@ -20,11 +20,11 @@ pub mod type_name;
 pub mod unit;
 mod words;
 
-pub use come::Come;
+pub use type_seen::TypeSeen;
 pub use declaration::{Assert, Declaration, InitDeclarator};
 pub use declarator::{Declarator, Parameter};
 pub use expression::{Constant, Expr, Literals};
-pub use form::Form;
+pub use declarator_form::DeclaratorForm;
 pub use initializer::{Initializer, Item};
 pub use law::{
     answer_law, first_token_law, height_law, one_tree_law, round_trip_law, spelling_law,

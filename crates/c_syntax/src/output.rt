@@ -26,8 +26,8 @@ pub(crate) fn bare(out: &mut Output, token: Body) -> Result<(), AllocError>
     Ok(())
 }
 
-pub(crate) fn placed(out: &mut Output, pos: Pos, token: Body) -> Result<(), AllocError>
-    ensures { IfOk result (λ _. out.new.items ≡ out.old.items ++ spec.placed pos token ∷ []) }
+pub(crate) fn token_at(out: &mut Output, pos: Pos, token: Body) -> Result<(), AllocError>
+    ensures { IfOk result (λ _. out.new.items ≡ out.old.items ++ spec.token_at pos token ∷ []) }
 {
     out.push(Spelled {
         body: token,
@@ -45,7 +45,7 @@ pub(crate) fn word(out: &mut Output, word: Word) -> Result<(), AllocError>
 pub(crate) fn word_at(out: &mut Output, pos: Pos, word: Word) -> Result<(), AllocError>
     ensures { IfOk result (λ _. out.new.items ≡ out.old.items ++ spec.word_at pos word ∷ []) }
 {
-    placed(out, pos, Body::Word(word))
+    token_at(out, pos, Body::Word(word))
 }
 
 pub(crate) fn mark(out: &mut Output, mark: Punct) -> Result<(), AllocError>
@@ -57,7 +57,7 @@ pub(crate) fn mark(out: &mut Output, mark: Punct) -> Result<(), AllocError>
 pub(crate) fn mark_at(out: &mut Output, pos: Pos, mark: Punct) -> Result<(), AllocError>
     ensures { IfOk result (λ _. out.new.items ≡ out.old.items ++ spec.mark_at pos mark ∷ []) }
 {
-    placed(out, pos, Body::Mark(mark))
+    token_at(out, pos, Body::Mark(mark))
 }
 
 pub(crate) fn name(alloc: Global, out: &mut Output, name: &Name) -> Result<(), AllocError>
@@ -76,7 +76,7 @@ pub(crate) fn name_at(
     ensures { IfOk result (λ _. out.new.items ≡ out.old.items ++ spec.name_at pos name.now ∷ []) }
 {
     let name = Name::new(alloc, name.bytes())?;
-    placed(out, pos, Body::Name(name))
+    token_at(out, pos, Body::Name(name))
 }
 
 pub(crate) fn tag(alloc: Global, out: &mut Output, tag: &Option<Tag>) -> Result<(), AllocError>
@@ -89,11 +89,11 @@ pub(crate) fn tag(alloc: Global, out: &mut Output, tag: &Option<Tag>) -> Result<
 }
 
 pub(crate) fn constant(out: &mut Output, pos: Pos, constant: Constant) -> Result<(), AllocError>
-    ensures { IfOk result (λ _. out.new.items ≡ out.old.items ++ spec.placed pos (operators.constant_token constant) ∷ []) }
+    ensures { IfOk result (λ _. out.new.items ≡ out.old.items ++ spec.token_at pos (operators.constant_token constant) ∷ []) }
 {
     match constant {
-        Constant::Number(number) => placed(out, pos, Body::Number(number)),
-        Constant::Character(value, wide) => placed(out, pos, Body::Character(value, wide)),
+        Constant::Number(number) => token_at(out, pos, Body::Number(number)),
+        Constant::Character(value, wide) => token_at(out, pos, Body::Character(value, wide)),
     }
 }
 
@@ -102,7 +102,7 @@ pub(crate) fn prefix_operator(
     pos: Pos,
     operator: Prefix,
 ) -> Result<(), AllocError>
-    ensures { IfOk result (λ _. out.new.items ≡ out.old.items ++ spec.placed pos (operators.prefix_token operator) ∷ []) }
+    ensures { IfOk result (λ _. out.new.items ≡ out.old.items ++ spec.token_at pos (operators.prefix_token operator) ∷ []) }
 {
     match operator {
         Prefix::PreInc => mark_at(out, pos, Punct::Increment),

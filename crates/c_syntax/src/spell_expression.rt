@@ -31,7 +31,7 @@ pub(crate) fn expression(alloc: Global, out: &mut Output, expr: &Expr) -> Result
         Expr::Const(pos, value) => constant(out, *pos, *value),
         Expr::Id(pos, id) => name_at(alloc, out, *pos, id),
         Expr::Text(pos, text) => literals(alloc, out, Some(*pos), text),
-        Expr::Paren(inner) => parenthesized(alloc, out, inner),
+        Expr::Paren(inner) => paren(alloc, out, inner),
         Expr::Index(pos, array, index) => {
             expression(alloc, out, array)?;
             subscript(alloc, out, *pos, index)
@@ -65,7 +65,7 @@ pub(crate) fn expression(alloc: Global, out: &mut Output, expr: &Expr) -> Result
 
 /// `( expression )`
 #[cycle(spelling)]
-pub(crate) fn parenthesized(alloc: Global, out: &mut Output, inner: &Expr) -> Result<(), AllocError>
+pub(crate) fn paren(alloc: Global, out: &mut Output, inner: &Expr) -> Result<(), AllocError>
     ensures { IfOk result (λ _. out.new.items ≡ out.old.items ++ (tokens.mark Punct.OpenParen ∷ spec.spell (view.expr_of inner.now) ++ tokens.mark Punct.CloseParen ∷ [])) }
 {
     mark(out, Punct::OpenParen)?;
@@ -107,7 +107,7 @@ fn postfix(
     operator: Postfix,
     operand: &Expr,
 ) -> Result<(), AllocError>
-    ensures { IfOk result (λ _. out.new.items ≡ out.old.items ++ spec.spell (tree.Postfix' pos operator (view.expr_of operand.now))) }
+    ensures { IfOk result (λ _. out.new.items ≡ out.old.items ++ spec.spell (tree.PostfixOp pos operator (view.expr_of operand.now))) }
 {
     expression(alloc, out, operand)?;
     mark_at(out, pos, postfix_token(operator))
@@ -121,7 +121,7 @@ fn prefix(
     operator: Prefix,
     operand: &Expr,
 ) -> Result<(), AllocError>
-    ensures { IfOk result (λ _. out.new.items ≡ out.old.items ++ spec.spell (tree.Prefix' pos operator (view.expr_of operand.now))) }
+    ensures { IfOk result (λ _. out.new.items ≡ out.old.items ++ spec.spell (tree.PrefixOp pos operator (view.expr_of operand.now))) }
 {
     prefix_operator(out, pos, operator)?;
     expression(alloc, out, operand)
@@ -135,7 +135,7 @@ fn measure(
     operator: Measure,
     of: &TypeName,
 ) -> Result<(), AllocError>
-    ensures { IfOk result (λ _. out.new.items ≡ out.old.items ++ spec.spell (tree.Measure' pos operator (view.type_name_of of.now))) }
+    ensures { IfOk result (λ _. out.new.items ≡ out.old.items ++ spec.spell (tree.MeasureOp pos operator (view.type_name_of of.now))) }
 {
     word_at(out, pos, measure_word(operator))?;
     mark(out, Punct::OpenParen)?;

@@ -11,7 +11,7 @@ use crate::declaration::{Assert, Declaration, InitDeclarator};
 use crate::expression::Expr;
 use crate::initializer::{Initializer, Item};
 use crate::output::{Output, comma_if, literals, mark, mark_at, name, word, word_at};
-use crate::spell_expression::{declarator, expression, parenthesized, specifiers};
+use crate::spell_expression::{declarator, expression, paren, specifiers};
 use crate::spelled::Spelled;
 use crate::statement::{BlockItem, ForInit, Statement, SwitchItem};
 use crate::unit::{External, Function, Tree};
@@ -136,12 +136,12 @@ fn for_init(alloc: Global, out: &mut Output, init: &ForInit) -> Result<(), Alloc
 {
     match init {
         ForInit::Declaration(of) => declaration(alloc, out, of),
-        ForInit::Expression(expr) => evaluated(alloc, out, expr),
+        ForInit::Expression(expr) => optional_statement(alloc, out, expr),
     }
 }
 
 /// `expression ;`
-fn evaluated(alloc: Global, out: &mut Output, expr: &Option<Expr>) -> Result<(), AllocError>
+fn optional_statement(alloc: Global, out: &mut Output, expr: &Option<Expr>) -> Result<(), AllocError>
     ensures { IfOk result (λ _. out.new.items ≡ out.old.items ++ (spec.spell_optional (option_map expr_of expr.now) ++ tokens.mark Punct.Semicolon ∷ [])) }
 {
     optional(alloc, out, expr)?;
@@ -159,7 +159,7 @@ fn head(
     ensures { IfOk result (λ _. out.new.items ≡ out.old.items ++ tokens.word_at pos first ∷ spec.spell_controlling (expr_of test.now)) }
 {
     word_at(out, pos, first)?;
-    parenthesized(alloc, out, test)
+    paren(alloc, out, test)
 }
 
 /// `for` and what stands in its parentheses.
@@ -176,7 +176,7 @@ fn for_head(
     word_at(out, pos, Word::For)?;
     mark(out, Punct::OpenParen)?;
     for_init(alloc, out, init)?;
-    evaluated(alloc, out, test)?;
+    optional_statement(alloc, out, test)?;
     optional(alloc, out, step)?;
     mark(out, Punct::CloseParen)
 }
@@ -186,7 +186,7 @@ fn do_tail(alloc: Global, out: &mut Output, test: &Expr) -> Result<(), AllocErro
     ensures { IfOk result (λ _. out.new.items ≡ out.old.items ++ (tokens.word Word.While ∷ spec.spell_controlling (expr_of test.now) ++ tokens.mark Punct.Semicolon ∷ [])) }
 {
     word(out, Word::While)?;
-    parenthesized(alloc, out, test)?;
+    paren(alloc, out, test)?;
     mark(out, Punct::Semicolon)
 }
 
@@ -204,7 +204,7 @@ fn statement(alloc: Global, out: &mut Output, of: &Statement) -> Result<(), Allo
 {
     match of {
         Statement::Block(list) => block(alloc, out, list.as_slice()),
-        Statement::ExprStmt(expr) => evaluated(alloc, out, expr),
+        Statement::ExprStmt(expr) => optional_statement(alloc, out, expr),
         Statement::If(pos, test, first, second) => {
             head(alloc, out, *pos, Word::If, test)?;
             statement(alloc, out, first)?;
@@ -217,24 +217,24 @@ fn statement(alloc: Global, out: &mut Output, of: &Statement) -> Result<(), Allo
             head(alloc, out, *pos, Word::Switch, test)?;
             switch_block(alloc, out, list.as_slice())
         }
-        Statement::While(pos, test, turn) => {
+        Statement::While(pos, test, body) => {
             head(alloc, out, *pos, Word::While, test)?;
-            statement(alloc, out, turn)
+            statement(alloc, out, body)
         }
-        Statement::Do(pos, turn, test) => {
+        Statement::Do(pos, body, test) => {
             word_at(out, *pos, Word::Do)?;
-            statement(alloc, out, turn)?;
+            statement(alloc, out, body)?;
             do_tail(alloc, out, test)
         }
-        Statement::For(pos, init, test, step, turn) => {
+        Statement::For(pos, init, test, step, body) => {
             for_head(alloc, out, *pos, init, test, step)?;
-            statement(alloc, out, turn)
+            statement(alloc, out, body)
         }
         Statement::Break(pos) => jump(out, *pos, Word::Break),
         Statement::Continue(pos) => jump(out, *pos, Word::Continue),
         Statement::Return(pos, value) => {
             word_at(out, *pos, Word::Return)?;
-            evaluated(alloc, out, value)
+            optional_statement(alloc, out, value)
         }
     }
 }

@@ -9,5 +9,5 @@ mod scopes;
 mod show;
 mod show_unit;
 mod statements;
-mod told;
+mod answers;
 mod word;

@@ -2,7 +2,7 @@
 
 ghost use Rattle.std.specs.Prelude.{◌≡◌, ◌^◌, ◌<◌, ◌≤◌, ◌++◌, length, take, map, IfOk};
 ghost use Rattle.c_parser.specs.Agree.{Gives};
-ghost use Rattle.c_syntax.specs.Reader.{seen};
+ghost use Rattle.c_syntax.specs.Parser.{next_body};
 ghost use Rattle.c_syntax.specs.ReadBody as spec;
 ghost use Rattle.c_syntax.specs.Scopes as names;
 ghost use Rattle.c_syntax.specs.ScopesUnit.{block_item_adds, switch_item_adds};
@@ -24,7 +24,7 @@ use std::alloc::Global;
 
 /// Whether the token begins an item of a block.
 fn begins_block_item(scope: &Scope, tokens: &[Token]) -> bool
-    ensures { result ≡ spec.begins_block_item scope.now (seen tokens.now) }
+    ensures { result ≡ spec.begins_block_item scope.now (next_body tokens.now) }
 {
     begins_statement(scope, tokens)
         || begins_type(scope, tokens)
@@ -33,7 +33,7 @@ fn begins_block_item(scope: &Scope, tokens: &[Token]) -> bool
 
 /// Whether the token begins an item of the block of a `switch`.
 fn begins_switch_item(scope: &Scope, tokens: &[Token]) -> bool
-    ensures { result ≡ spec.begins_switch_item scope.now (seen tokens.now) }
+    ensures { result ≡ spec.begins_switch_item scope.now (next_body tokens.now) }
 {
     begins_block_item(scope, tokens)
         || is_word(tokens, Word::Case)
@@ -42,7 +42,7 @@ fn begins_switch_item(scope: &Scope, tokens: &[Token]) -> bool
 
 /// Whether the next token ends no block.
 fn goes_item(tokens: &[Token]) -> bool
-    ensures { (scope : names.Scope) → result ≡ spec.goes_item scope (seen tokens.now) }
+    ensures { (scope : names.Scope) → result ≡ spec.goes_item scope (next_body tokens.now) }
 {
     !tokens.is_empty() && !is_mark(tokens, Punct::CloseBrace)
 }

@@ -4,7 +4,7 @@ ghost use Rattle.std.specs.Prelude.{◌≡◌, ◌^◌, ◌<◌, ◌++◌, map, 
 ghost use Rattle.c_lexer.specs.declared.punct.Punct.TheVariants as p;
 ghost use Rattle.c_parser.specs.Agree.{Gives};
 ghost use Rattle.c_syntax.specs.ReadBody as spec;
-ghost use Rattle.c_syntax.specs.Reader.{seen};
+ghost use Rattle.c_syntax.specs.Parser.{next_body};
 ghost use Rattle.c_syntax.specs.ReadToken as token;
 ghost use Rattle.c_syntax.specs.Scopes as names;
 ghost use Rattle.c_syntax.specs.Scopes.{declarator_adds};
@@ -23,7 +23,7 @@ use crate::scope::Scope;
 use c_lexer::{Punct, Token};
 use c_syntax::declaration::{Declaration, InitDeclarator};
 use c_syntax::declarator::Declarator;
-use c_syntax::form::Form;
+use c_syntax::declarator_form::DeclaratorForm;
 use c_syntax::specifier::Specifier;
 use std::alloc::Global;
 
@@ -52,7 +52,7 @@ fn declaration_on<'a>(
     tokens: &'a [Token],
 ) -> Result<(Declaration, &'a [Token]), Fault<'a>>
     requires { k < 2 ^ 32 }
-    ensures reads { Gives (λ x. declaration_of x) (spec.declaration_by k scope.old (specifiers_of specifiers.items) (token.is_mark p.Semicolon (seen tokens.now)) tokens.now) result }
+    ensures reads { Gives (λ x. declaration_of x) (spec.declaration_by k scope.old (specifiers_of specifiers.items) (token.is_mark p.Semicolon (next_body tokens.now)) tokens.now) result }
     ensures scope { IfOk result (λ x. (outer : names.Scope) → scope.old ≡ outer ++ names.specifiers_add (specifiers_of specifiers.items) → scope.new ≡ outer ++ declaration_adds (declaration_of x.0)) }
 {
     if is_mark(tokens, Punct::Semicolon) {
@@ -65,7 +65,7 @@ fn declaration_on<'a>(
             tail(tokens),
         ));
     }
-    let (one, rest) = declarator(alloc, scope, k, Form::Named, tokens)?;
+    let (one, rest) = declarator(alloc, scope, k, DeclaratorForm::Named, tokens)?;
     declared_on(alloc, scope, k, specifiers, one.node, rest)
 }
 
@@ -150,7 +150,7 @@ fn init_declarator<'a>(
     ensures reads { Gives (λ x. init_declarator_of x.value) (spec.init_declarator k names_type scope.old tokens.now) result }
     ensures scope { IfOk result (λ x. scope.new ≡ scope.old ++ spec.init_declarator_adds k names_type (init_declarator_of x.0.value)) }
 {
-    let (one, rest) = declarator(alloc, scope, k, Form::Named, tokens)?;
+    let (one, rest) = declarator(alloc, scope, k, DeclaratorForm::Named, tokens)?;
     init_on(alloc, scope, k, names_type, one.node, rest)
 }
 
@@ -170,9 +170,9 @@ fn init_on<'a>(
     declare_own_name(alloc, scope, names_type, &declarator)?;
     if is_mark(tokens, Punct::Assign) {
         let (value, rest) = initializer(alloc, scope, k, tail(tokens))?;
-        let one = make::initialized(alloc, declarator, value)?;
+        let one = make::with_initializer(alloc, declarator, value)?;
         return Ok((one, rest));
     }
-    let one = make::uninitialized(alloc, declarator)?;
+    let one = make::without_initializer(alloc, declarator)?;
     Ok((one, tokens))
 }

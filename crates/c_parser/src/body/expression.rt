@@ -20,7 +20,7 @@ use c_syntax::expression::Expr;
 use std::alloc::Global;
 
 /// An expression (6.5.17) of a height at most.
-#[tactic(auto, unfolding(c_syntax::specs::ReadBody::an_expr, c_syntax::specs::ReadExpr::wanted))]
+#[tactic(auto, unfolding(c_syntax::specs::ReadBody::an_expr, c_syntax::specs::ReadExpr::expr_lower))]
 fn an_expr<'a>(
     alloc: Global,
     scope: &mut Scope,

@@ -3,7 +3,7 @@
 ghost use Rattle.std.specs.Prelude.{◌≡◌, ◌+◌, ◌^◌, ◌<◌, ◌++◌, map, IfOk};
 ghost use Rattle.c_parser.specs.Agree.{Gives};
 ghost use Rattle.c_syntax.specs.ReadBody as spec;
-ghost use Rattle.c_syntax.specs.Reader.{seen};
+ghost use Rattle.c_syntax.specs.Parser.{next_body};
 ghost use Rattle.c_syntax.specs.ScopesUnit.{initializer_adds, item_adds, items_add};
 ghost use Rattle.c_syntax.specs.ViewUnit.{initializer_of, item_of};
 
@@ -21,14 +21,14 @@ use std::alloc::Global;
 
 /// Whether the token begins an initializer.
 fn begins_initializer(scope: &Scope, tokens: &[Token]) -> bool
-    ensures { result ≡ spec.begins_initializer scope.now (seen tokens.now) }
+    ensures { result ≡ spec.begins_initializer scope.now (next_body tokens.now) }
 {
     begins_expr(scope, tokens) || is_mark(tokens, Punct::OpenBrace)
 }
 
 /// Whether the token begins an initializer in braces, with its designator.
 fn begins_item(scope: &Scope, tokens: &[Token]) -> bool
-    ensures { result ≡ spec.begins_item scope.now (seen tokens.now) }
+    ensures { result ≡ spec.begins_item scope.now (next_body tokens.now) }
 {
     begins_initializer(scope, tokens)
         || is_mark(tokens, Punct::Dot)

@@ -36,9 +36,9 @@ pub(crate) fn while_on<'a>(
 {
     let outer = scope.len();
     let (test, rest) = controlling(alloc, scope, k, tokens)?;
-    let (turn, rest) = statement(alloc, scope, k, rest)?;
+    let (body, rest) = statement(alloc, scope, k, rest)?;
     scope.leave(outer);
-    let node = make::statement::while_loop(alloc, pos, test, turn)?;
+    let node = make::statement::while_loop(alloc, pos, test, body)?;
     Ok((node, rest))
 }
 
@@ -57,7 +57,7 @@ pub(crate) fn do_on<'a>(
     ensures scope { IfOk result (λ x. scope.new ≡ scope.old ++ statement_adds (statement_of x.0.value)) }
 {
     let outer = scope.len();
-    let (turn, rest) = statement(alloc, scope, k, tokens)?;
+    let (body, rest) = statement(alloc, scope, k, tokens)?;
     scope.leave(outer);
     if !is_word(rest, Word::While) {
         return Err(Fault::Unfit(rest));
@@ -65,7 +65,7 @@ pub(crate) fn do_on<'a>(
     let (test, rest) = controlling(alloc, scope, k, tail(rest))?;
     scope.leave(outer);
     let rest = expect(rest, Punct::Semicolon)?;
-    let node = make::statement::do_loop(alloc, pos, turn, test)?;
+    let node = make::statement::do_loop(alloc, pos, body, test)?;
     Ok((node, rest))
 }
 
@@ -109,9 +109,9 @@ fn for_begun<'a>(
     let outer = scope.len();
     let (test, rest) = optional(alloc, scope, k, Punct::Semicolon, tokens)?;
     let (step, rest) = optional(alloc, scope, k, Punct::CloseParen, rest)?;
-    let (turn, rest) = statement(alloc, scope, k, rest)?;
+    let (body, rest) = statement(alloc, scope, k, rest)?;
     scope.leave(outer);
-    let node = make::statement::for_loop(alloc, pos, init, test, step, turn)?;
+    let node = make::statement::for_loop(alloc, pos, init, test, step, body)?;
     Ok((node, rest))
 }
 

@@ -2,7 +2,7 @@
 
 ghost use Rattle.std.specs.Prelude.{◌≡◌, ◌^◌, ◌<◌, ◌++◌, [], map, IfOk};
 ghost use Rattle.c_parser.specs.Agree.{Gives};
-ghost use Rattle.c_syntax.specs.Reader.{seen};
+ghost use Rattle.c_syntax.specs.Parser.{next_body};
 ghost use Rattle.c_syntax.specs.ReadBody as spec;
 ghost use Rattle.c_syntax.specs.ScopesUnit.{statement_adds};
 ghost use Rattle.c_syntax.specs.TreeUnit as tree;
@@ -24,7 +24,7 @@ use std::alloc::Global;
 
 /// Whether the token is a word that begins a statement.
 fn begins_statement_word(tokens: &[Token]) -> bool
-    ensures { result ≡ spec.begins_statement_word (seen tokens.now) }
+    ensures { result ≡ spec.begins_statement_word (next_body tokens.now) }
 {
     matches!(
         tokens,
@@ -49,7 +49,7 @@ fn begins_statement_word(tokens: &[Token]) -> bool
 
 /// Whether the token begins a statement.
 pub(crate) fn begins_statement(scope: &Scope, tokens: &[Token]) -> bool
-    ensures { result ≡ spec.begins_statement scope.now (seen tokens.now) }
+    ensures { result ≡ spec.begins_statement scope.now (next_body tokens.now) }
 {
     begins_expr(scope, tokens)
         || begins_statement_word(tokens)
@@ -92,7 +92,7 @@ pub(crate) fn statement_at<'a>(
     ensures scope { IfOk result (λ x. scope.new ≡ scope.old ++ statement_adds (statement_of x.0.value)) }
 {
     let [first, rest @ ..] = tokens else {
-        return evaluated(alloc, scope, k, tokens);
+        return expression_statement(alloc, scope, k, tokens);
     };
     let pos = first.pos;
     match &first.body {
@@ -108,7 +108,7 @@ pub(crate) fn statement_at<'a>(
         Body::Word(Word::Break) => break_on(alloc, pos, rest),
         Body::Word(Word::Continue) => continue_on(alloc, pos, rest),
         Body::Word(Word::Return) => return_on(alloc, scope, k, pos, rest),
-        _ => evaluated(alloc, scope, k, tokens),
+        _ => expression_statement(alloc, scope, k, tokens),
     }
 }
 
@@ -150,14 +150,14 @@ pub(crate) fn block<'a>(
 }
 
 /// An expression statement (6.8.3).
-fn evaluated<'a>(
+fn expression_statement<'a>(
     alloc: Global,
     scope: &mut Scope,
     k: usize,
     tokens: &'a [Token],
 ) -> Result<(Box<Statement>, &'a [Token]), Fault<'a>>
     requires { k < 2 ^ 32 }
-    ensures reads { Gives (λ x. statement_of x.value) (spec.evaluated k (spec.statements k) scope.old tokens.now) result }
+    ensures reads { Gives (λ x. statement_of x.value) (spec.expression_statement k (spec.statements k) scope.old tokens.now) result }
     ensures scope { IfOk result (λ x. scope.new ≡ scope.old ++ statement_adds (statement_of x.0.value)) }
 {
     let (expr, rest) = optional(alloc, scope, k, Punct::Semicolon, tokens)?;

@@ -3,7 +3,7 @@
 ghost use Rattle.std.specs.Prelude.{◌≡◌, ◌^◌, ◌<◌, ◌++◌, map, IfOk, is_some};
 ghost use Rattle.c_parser.specs.Agree.{Gives};
 ghost use Rattle.c_syntax.specs.ReadBody as spec;
-ghost use Rattle.c_syntax.specs.Reader.{seen};
+ghost use Rattle.c_syntax.specs.Parser.{next_body};
 ghost use Rattle.c_syntax.specs.ReadToken as next;
 ghost use Rattle.c_syntax.specs.Scopes as names;
 ghost use Rattle.c_syntax.specs.Scopes.{specifiers_add, declarator_adds};
@@ -25,7 +25,7 @@ use crate::scope::Scope;
 use c_lexer::{Punct, Token, Word};
 use c_syntax::declaration::Declaration;
 use c_syntax::declarator::Declarator;
-use c_syntax::form::Form;
+use c_syntax::declarator_form::DeclaratorForm;
 use c_syntax::specifier::Specifier;
 use c_syntax::statement::BlockItem;
 use c_syntax::unit::External;
@@ -46,7 +46,7 @@ fn has_own_parameters(declarator: &Declarator) -> bool
 
 /// Whether the body of a function follows the declarator.
 fn is_body(declarator: &Declarator, tokens: &[Token]) -> bool
-    ensures { result ≡ spec.is_body (declarator_of declarator.now) (seen tokens.now) }
+    ensures { result ≡ spec.is_body (declarator_of declarator.now) (next_body tokens.now) }
 {
     is_mark(tokens, Punct::OpenBrace) && has_own_parameters(declarator)
 }
@@ -121,7 +121,7 @@ fn external_by<'a>(
     tokens: &'a [Token],
 ) -> Result<(Box<External>, &'a [Token]), Fault<'a>>
     requires { k < 2 ^ 32 }
-    ensures reads { (outer : names.Scope) → scope.old ≡ outer ++ specifiers_add (specifiers_of specifiers.items) → Gives (λ x. external_of x.value) (spec.external_by k outer (specifiers_of specifiers.items) (next.is_mark Punct.Semicolon (seen tokens.now)) tokens.now) result }
+    ensures reads { (outer : names.Scope) → scope.old ≡ outer ++ specifiers_add (specifiers_of specifiers.items) → Gives (λ x. external_of x.value) (spec.external_by k outer (specifiers_of specifiers.items) (next.is_mark Punct.Semicolon (next_body tokens.now)) tokens.now) result }
     ensures scope { IfOk result (λ x. (outer : names.Scope) → scope.old ≡ outer ++ specifiers_add (specifiers_of specifiers.items) → scope.new ≡ outer ++ external_adds (external_of x.0.value)) }
 {
     if is_mark(tokens, Punct::Semicolon) {
@@ -132,7 +132,7 @@ fn external_by<'a>(
         let whole = unit::declaration(alloc, declaration)?;
         return Ok((whole, tail(tokens)));
     }
-    let (declarator, rest) = declarator(alloc, scope, k, Form::Named, tokens)?;
+    let (declarator, rest) = declarator(alloc, scope, k, DeclaratorForm::Named, tokens)?;
     external_on(alloc, scope, k, specifiers, declarator.node, rest)
 }
 

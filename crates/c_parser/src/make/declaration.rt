@@ -9,7 +9,7 @@ use c_syntax::declarator::Declarator;
 use c_syntax::initializer::Initializer;
 use std::alloc::{AllocError, Global};
 
-pub(crate) fn initialized(
+pub(crate) fn with_initializer(
     alloc: Global,
     declarator: Box<Declarator>,
     value: Box<Initializer>,
@@ -25,7 +25,7 @@ pub(crate) fn initialized(
     )?)
 }
 
-pub(crate) fn uninitialized(
+pub(crate) fn without_initializer(
     alloc: Global,
     declarator: Box<Declarator>,
 ) -> Result<Box<InitDeclarator>, AllocError>

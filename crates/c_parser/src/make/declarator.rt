@@ -11,7 +11,7 @@ use c_syntax::specifier::Qualifier;
 use critical_table::{Name, Pos};
 use std::alloc::{AllocError, Global};
 
-pub(crate) fn omitted(alloc: Global) -> Result<Part<Declarator>, AllocError>
+pub(crate) fn omission(alloc: Global) -> Result<Part<Declarator>, AllocError>
     ensures tree { IfOk result (λ x. declarator_of x.node.value ≡ tree.Omitted) }
     ensures height { IfOk result (λ x. x.height ≡ 0) }
 {

@@ -19,7 +19,7 @@ pub(crate) fn infix(
 ) -> Result<Part<Expr>, AllocError>
     requires left { left.height + 1 < 2 ^ 64 }
     requires right { right.height + 1 < 2 ^ 64 }
-    ensures tree { IfOk result (λ x. expr_of x.node.value ≡ tree.Infix' pos operator (expr_of left.node.value) (expr_of right.node.value)) }
+    ensures tree { IfOk result (λ x. expr_of x.node.value ≡ tree.InfixOp pos operator (expr_of left.node.value) (expr_of right.node.value)) }
     ensures height { IfOk result (λ x. x.height ≡ max left.height right.height + 1) }
 {
     Ok(Part {
@@ -86,7 +86,7 @@ pub(crate) fn postfix(
     operand: Part<Expr>,
 ) -> Result<Part<Expr>, AllocError>
     requires { operand.height + 1 < 2 ^ 64 }
-    ensures tree { IfOk result (λ x. expr_of x.node.value ≡ tree.Postfix' pos operator (expr_of operand.node.value)) }
+    ensures tree { IfOk result (λ x. expr_of x.node.value ≡ tree.PostfixOp pos operator (expr_of operand.node.value)) }
     ensures height { IfOk result (λ x. x.height ≡ operand.height + 1) }
 {
     Ok(Part {

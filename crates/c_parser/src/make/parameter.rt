@@ -17,7 +17,7 @@ pub(crate) fn type_name(
 ) -> Result<Part<TypeName>, AllocError>
     requires specifiers { specifiers.height + 1 < 2 ^ 64 }
     requires declarator { declarator.height + 1 < 2 ^ 64 }
-    ensures tree { IfOk result (λ x. type_name_of x.node.value ≡ tree.Type' (specifiers_of specifiers.nodes.items) (declarator_of declarator.node.value)) }
+    ensures tree { IfOk result (λ x. type_name_of x.node.value ≡ tree.NamedType (specifiers_of specifiers.nodes.items) (declarator_of declarator.node.value)) }
     ensures height { IfOk result (λ x. x.height ≡ max specifiers.height declarator.height + 1) }
 {
     let height = specifiers.height.max(declarator.height) + 1;

@@ -13,7 +13,7 @@ use critical_table::{Name, Pos};
 use std::alloc::{AllocError, Global};
 
 pub(crate) fn storage(alloc: Global, pos: Pos, word: Storage) -> Result<Part<Specifier>, AllocError>
-    ensures tree { IfOk result (λ x. specifier_of x.node.value ≡ tree.Storage' pos word) }
+    ensures tree { IfOk result (λ x. specifier_of x.node.value ≡ tree.StorageClass pos word) }
     ensures height { IfOk result (λ x. x.height ≡ 0) }
 {
     Ok(Part {
@@ -27,7 +27,7 @@ pub(crate) fn qualifier(
     pos: Pos,
     word: Qualifier,
 ) -> Result<Part<Specifier>, AllocError>
-    ensures tree { IfOk result (λ x. specifier_of x.node.value ≡ tree.Qualifier' pos word) }
+    ensures tree { IfOk result (λ x. specifier_of x.node.value ≡ tree.TypeQualifier pos word) }
     ensures height { IfOk result (λ x. x.height ≡ 0) }
 {
     Ok(Part {
@@ -47,7 +47,7 @@ pub(crate) fn inline(alloc: Global, pos: Pos) -> Result<Part<Specifier>, AllocEr
 }
 
 pub(crate) fn basic(alloc: Global, pos: Pos, word: BasicWord) -> Result<Part<Specifier>, AllocError>
-    ensures tree { IfOk result (λ x. specifier_of x.node.value ≡ tree.BasicWord' pos word) }
+    ensures tree { IfOk result (λ x. specifier_of x.node.value ≡ tree.BasicType pos word) }
     ensures height { IfOk result (λ x. x.height ≡ 0) }
 {
     Ok(Part {

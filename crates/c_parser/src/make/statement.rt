@@ -59,22 +59,22 @@ pub(crate) fn while_loop(
     alloc: Global,
     pos: Pos,
     test: Box<Expr>,
-    turn: Box<Statement>,
+    body: Box<Statement>,
 ) -> Result<Box<Statement>, AllocError>
-    ensures { IfOk result (λ x. statement_of x.value ≡ tree.While pos (expr_of test.value) (statement_of turn.value)) }
+    ensures { IfOk result (λ x. statement_of x.value ≡ tree.While pos (expr_of test.value) (statement_of body.value)) }
 {
-    Ok(Box::new(alloc, Statement::While(pos, Box::into_inner(test), turn))?)
+    Ok(Box::new(alloc, Statement::While(pos, Box::into_inner(test), body))?)
 }
 
 pub(crate) fn do_loop(
     alloc: Global,
     pos: Pos,
-    turn: Box<Statement>,
+    body: Box<Statement>,
     test: Box<Expr>,
 ) -> Result<Box<Statement>, AllocError>
-    ensures { IfOk result (λ x. statement_of x.value ≡ tree.Do pos (statement_of turn.value) (expr_of test.value)) }
+    ensures { IfOk result (λ x. statement_of x.value ≡ tree.Do pos (statement_of body.value) (expr_of test.value)) }
 {
-    Ok(Box::new(alloc, Statement::Do(pos, turn, Box::into_inner(test)))?)
+    Ok(Box::new(alloc, Statement::Do(pos, body, Box::into_inner(test)))?)
 }
 
 pub(crate) fn for_loop(
@@ -83,9 +83,9 @@ pub(crate) fn for_loop(
     init: Box<ForInit>,
     test: Box<Option<Expr>>,
     step: Box<Option<Expr>>,
-    turn: Box<Statement>,
+    body: Box<Statement>,
 ) -> Result<Box<Statement>, AllocError>
-    ensures { IfOk result (λ x. statement_of x.value ≡ tree.For pos (for_init_of init.value) (option_map expr_of test.value) (option_map expr_of step.value) (statement_of turn.value)) }
+    ensures { IfOk result (λ x. statement_of x.value ≡ tree.For pos (for_init_of init.value) (option_map expr_of test.value) (option_map expr_of step.value) (statement_of body.value)) }
 {
     Ok(Box::new(
         alloc,
@@ -94,7 +94,7 @@ pub(crate) fn for_loop(
             Box::into_inner(init),
             Box::into_inner(test),
             Box::into_inner(step),
-            turn,
+            body,
         ),
     )?)
 }

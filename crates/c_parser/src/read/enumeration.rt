@@ -4,7 +4,7 @@ ghost use Rattle.std.specs.Prelude.{◌≡◌, map, ◌+◌, ◌^◌, ◌≤◌,
 ghost use Rattle.c_parser.specs.Agree.{Gives};
 ghost use Rattle.c_syntax.specs.Height.{specifier_height, enumerator_height, enumerators_height};
 ghost use Rattle.c_syntax.specs.ReadSpecifier as spec;
-ghost use Rattle.c_syntax.specs.ReadSpecifier.{readers};
+ghost use Rattle.c_syntax.specs.ReadSpecifier.{parsers};
 ghost use Rattle.c_syntax.specs.Scopes.{specifier_adds, enumerator_adds, enumerators_add};
 ghost use Rattle.c_syntax.specs.View.{specifier_of, enumerator_of, enumerators};
 
@@ -31,7 +31,7 @@ pub(crate) fn enumeration<'a>(
     tokens: &'a [Token],
 ) -> Result<(Part<Specifier>, &'a [Token]), Fault<'a>>
     requires { k < 2 ^ 32 }
-    ensures reads { Gives (λ x. specifier_of x.node.value) (spec.enumeration k (readers k) scope.old pos tokens.now) result }
+    ensures reads { Gives (λ x. specifier_of x.node.value) (spec.enumeration k (parsers k) scope.old pos tokens.now) result }
     ensures height { IfOk result (λ x. (x.0.height ≡ specifier_height (specifier_of x.0.node.value)) × (x.0.height ≤ k + 1)) }
     ensures scope { IfOk result (λ x. scope.new ≡ scope.old ++ specifier_adds (specifier_of x.0.node.value)) }
 {
@@ -70,7 +70,7 @@ fn enum_tag<'a>(
     tokens: &'a [Token],
 ) -> Result<(Part<Specifier>, &'a [Token]), Fault<'a>>
     requires { k < 2 ^ 32 }
-    ensures reads { Gives (λ x. specifier_of x.node.value) (spec.enum_tag k (readers k) scope.old pos tag tokens.now) result }
+    ensures reads { Gives (λ x. specifier_of x.node.value) (spec.enum_tag k (parsers k) scope.old pos tag tokens.now) result }
     ensures height { IfOk result (λ x. (x.0.height ≡ specifier_height (specifier_of x.0.node.value)) × (x.0.height ≤ k + 1)) }
     ensures scope { IfOk result (λ x. scope.new ≡ scope.old ++ specifier_adds (specifier_of x.0.node.value)) }
 {
@@ -92,7 +92,7 @@ fn enum_body<'a>(
     tokens: &'a [Token],
 ) -> Result<(Part<Specifier>, &'a [Token]), Fault<'a>>
     requires { k < 2 ^ 32 }
-    ensures reads { Gives (λ x. specifier_of x.node.value) (spec.enum_body k (readers k) scope.old pos tag tokens.now) result }
+    ensures reads { Gives (λ x. specifier_of x.node.value) (spec.enum_body k (parsers k) scope.old pos tag tokens.now) result }
     ensures height { IfOk result (λ x. (x.0.height ≡ specifier_height (specifier_of x.0.node.value)) × (x.0.height ≤ k + 1)) }
     ensures scope { IfOk result (λ x. scope.new ≡ scope.old ++ specifier_adds (specifier_of x.0.node.value)) }
 {
@@ -110,7 +110,7 @@ fn listed_enumerators<'a>(
     tokens: &'a [Token],
 ) -> Result<((Parts<Enumerator>, bool), &'a [Token]), Fault<'a>>
     requires { k < 2 ^ 32 }
-    ensures reads { Gives (λ x. (map enumerator_of x.0.nodes.items, x.1)) (spec.listed_enumerators k (readers k) scope.old tokens.now) result }
+    ensures reads { Gives (λ x. (map enumerator_of x.0.nodes.items, x.1)) (spec.listed_enumerators k (parsers k) scope.old tokens.now) result }
     ensures height { IfOk result (λ x. (x.0.0.height ≡ enumerators_height (enumerators (map enumerator_of x.0.0.nodes.items))) × (x.0.0.height ≤ k)) }
     ensures scope { IfOk result (λ x. scope.new ≡ scope.old ++ enumerators_add (enumerators (map enumerator_of x.0.0.nodes.items))) }
 {
@@ -139,7 +139,7 @@ fn enumerator<'a>(
     tokens: &'a [Token],
 ) -> Result<(Part<Enumerator>, &'a [Token]), Fault<'a>>
     requires { k < 2 ^ 32 }
-    ensures reads { Gives (λ x. enumerator_of x.node.value) (spec.enumerator k (readers k) scope.old tokens.now) result }
+    ensures reads { Gives (λ x. enumerator_of x.node.value) (spec.enumerator k (parsers k) scope.old tokens.now) result }
     ensures height { IfOk result (λ x. (x.0.height ≡ enumerator_height (enumerator_of x.0.node.value)) × (x.0.height ≤ k)) }
     ensures scope { IfOk result (λ x. scope.new ≡ scope.old ++ enumerator_adds (enumerator_of x.0.node.value)) }
 {
@@ -168,7 +168,7 @@ fn enumerator_on<'a>(
     tokens: &'a [Token],
 ) -> Result<(Part<Enumerator>, &'a [Token]), Fault<'a>>
     requires { k < 2 ^ 32 }
-    ensures reads { Gives (λ x. enumerator_of x.node.value) (spec.enumerator_on k (readers k) scope.old pos name.now tokens.now) result }
+    ensures reads { Gives (λ x. enumerator_of x.node.value) (spec.enumerator_on k (parsers k) scope.old pos name.now tokens.now) result }
     ensures height { IfOk result (λ x. (x.0.height ≡ enumerator_height (enumerator_of x.0.node.value)) × (x.0.height ≤ k)) }
     ensures scope { IfOk result (λ x. scope.new ≡ scope.old ++ enumerator_adds (enumerator_of x.0.node.value)) }
 {

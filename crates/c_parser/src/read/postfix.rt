@@ -3,9 +3,9 @@
 ghost use Rattle.std.specs.Prelude.{◌≡◌, false, map, ◌+◌, ◌^◌, ◌≤◌, ◌<◌, ◌++◌, IfOk};
 ghost use Rattle.c_parser.specs.Agree.{Gives};
 ghost use Rattle.c_syntax.specs.Height.{height, exprs_height};
-ghost use Rattle.c_syntax.specs.Reader.{seen};
+ghost use Rattle.c_syntax.specs.Parser.{next_body};
 ghost use Rattle.c_syntax.specs.ReadExpr as spec;
-ghost use Rattle.c_syntax.specs.ReadSpecifier.{readers};
+ghost use Rattle.c_syntax.specs.ReadSpecifier.{parsers};
 ghost use Rattle.c_syntax.specs.Scopes as names;
 ghost use Rattle.c_syntax.specs.Scopes.{expr_adds, exprs_add};
 ghost use Rattle.c_syntax.specs.Tree as trees;
@@ -26,7 +26,7 @@ use std::alloc::Global;
 
 /// Whether a postfix operator follows.
 fn goes_postfix(tokens: &[Token]) -> bool
-    ensures { (left : trees.Expr) → result ≡ spec.goes_postfix left (seen tokens.now) }
+    ensures { (left : trees.Expr) → result ≡ spec.goes_postfix left (next_body tokens.now) }
 {
     matches!(
         tokens,
@@ -59,7 +59,7 @@ pub(crate) fn postfixes<'a>(
     requires small { k < 2 ^ 32 }
     requires known { left.height ≡ height (expr_of left.node.value) }
     requires within { left.height ≤ k + 1 }
-    ensures reads { (outer : names.Scope) → scope.old ≡ outer ++ expr_adds (expr_of left.node.value) → Gives (λ x. expr_of x.node.value) (spec.postfixes k (readers k) outer (expr_of left.node.value) tokens.now) result }
+    ensures reads { (outer : names.Scope) → scope.old ≡ outer ++ expr_adds (expr_of left.node.value) → Gives (λ x. expr_of x.node.value) (spec.postfixes k (parsers k) outer (expr_of left.node.value) tokens.now) result }
     ensures height { IfOk result (λ x. (x.0.height ≡ height (expr_of x.0.node.value)) × (x.0.height ≤ k + 1)) }
     ensures scope { IfOk result (λ x. (outer : names.Scope) → scope.old ≡ outer ++ expr_adds (expr_of left.node.value) → scope.new ≡ outer ++ expr_adds (expr_of x.0.node.value)) }
 {
@@ -88,7 +88,7 @@ fn postfix_on<'a>(
     requires small { k < 2 ^ 32 }
     requires known { left.height ≡ height (expr_of left.node.value) }
     requires within { left.height ≤ k }
-    ensures reads { (outer : names.Scope) → scope.old ≡ outer ++ expr_adds (expr_of left.node.value) → Gives (λ x. expr_of x.node.value) (spec.postfix_on k (readers k) outer (expr_of left.node.value) tokens.now) result }
+    ensures reads { (outer : names.Scope) → scope.old ≡ outer ++ expr_adds (expr_of left.node.value) → Gives (λ x. expr_of x.node.value) (spec.postfix_on k (parsers k) outer (expr_of left.node.value) tokens.now) result }
     ensures height { IfOk result (λ x. (x.0.height ≡ height (expr_of x.0.node.value)) × (left.height < x.0.height) × (x.0.height ≤ k + 1)) }
     ensures scope { IfOk result (λ x. (outer : names.Scope) → scope.old ≡ outer ++ expr_adds (expr_of left.node.value) → scope.new ≡ outer ++ expr_adds (expr_of x.0.node.value)) }
 {
@@ -151,7 +151,7 @@ fn index<'a>(
     requires small { k < 2 ^ 32 }
     requires known { left.height ≡ height (expr_of left.node.value) }
     requires within { left.height ≤ k }
-    ensures reads { Gives (λ x. expr_of x.node.value) (spec.index_in k (readers k) scope.old (expr_of left.node.value) tokens.now) result }
+    ensures reads { Gives (λ x. expr_of x.node.value) (spec.index_in k (parsers k) scope.old (expr_of left.node.value) tokens.now) result }
     ensures height { IfOk result (λ x. (x.0.height ≡ height (expr_of x.0.node.value)) × (left.height < x.0.height) × (x.0.height ≤ k + 1)) }
     ensures scope { IfOk result (λ x. (outer : names.Scope) → scope.old ≡ outer ++ expr_adds (expr_of left.node.value) → scope.new ≡ outer ++ expr_adds (expr_of x.0.node.value)) }
 {
@@ -173,7 +173,7 @@ fn call<'a>(
     requires small { k < 2 ^ 32 }
     requires known { left.height ≡ height (expr_of left.node.value) }
     requires within { left.height ≤ k }
-    ensures reads { Gives (λ x. expr_of x.node.value) (spec.call_in k (readers k) scope.old (expr_of left.node.value) tokens.now) result }
+    ensures reads { Gives (λ x. expr_of x.node.value) (spec.call_in k (parsers k) scope.old (expr_of left.node.value) tokens.now) result }
     ensures height { IfOk result (λ x. (x.0.height ≡ height (expr_of x.0.node.value)) × (left.height < x.0.height) × (x.0.height ≤ k + 1)) }
     ensures scope { IfOk result (λ x. (outer : names.Scope) → scope.old ≡ outer ++ expr_adds (expr_of left.node.value) → scope.new ≡ outer ++ expr_adds (expr_of x.0.node.value)) }
 {
@@ -192,7 +192,7 @@ fn arguments<'a>(
     tokens: &'a [Token],
 ) -> Result<(Parts<Expr>, &'a [Token]), Fault<'a>>
     requires { k < 2 ^ 32 }
-    ensures reads { Gives (λ x. exprs (map expr_of x.nodes.items)) (spec.arguments k (readers k) scope.old tokens.now) result }
+    ensures reads { Gives (λ x. exprs (map expr_of x.nodes.items)) (spec.arguments k (parsers k) scope.old tokens.now) result }
     ensures height { IfOk result (λ x. (x.0.height ≡ exprs_height (exprs (map expr_of x.0.nodes.items))) × (x.0.height ≤ k)) }
     ensures scope { IfOk result (λ x. scope.new ≡ scope.old ++ exprs_add (exprs (map expr_of x.0.nodes.items))) }
 {
@@ -269,7 +269,7 @@ fn listed_arguments<'a>(
     tokens: &'a [Token],
 ) -> Result<(Parts<Expr>, &'a [Token]), Fault<'a>>
     requires { k < 2 ^ 32 }
-    ensures reads { Gives (λ x. (map expr_of x.nodes.items, false)) (spec.listed_arguments k (readers k) scope.old tokens.now) result }
+    ensures reads { Gives (λ x. (map expr_of x.nodes.items, false)) (spec.listed_arguments k (parsers k) scope.old tokens.now) result }
     ensures height { IfOk result (λ x. (x.0.height ≡ exprs_height (exprs (map expr_of x.0.nodes.items))) × (x.0.height ≤ k)) }
     ensures scope { IfOk result (λ x. scope.new ≡ scope.old ++ exprs_add (exprs (map expr_of x.0.nodes.items))) }
 {

@@ -4,7 +4,7 @@ use Rattle.std.specs.Option.{option_map}
 use Rattle.std.proofs.lemmas.Result.{err_from_is_err_and}
 use Rattle.c_lexer.specs.declared.punct.Punct.TheVariants as punct
 use Rattle.c_parser.specs.Agree.{Gives}
-use Rattle.c_syntax.specs.Reader.{Found}
+use Rattle.c_syntax.specs.Parser.{Found}
 use Rattle.c_syntax.specs.ReadBody.{statements, goes_item, optional}
 use Rattle.c_syntax.specs.ReadToken.{is_mark}
 use Rattle.c_syntax.specs.ScopesUnit.{block_item_adds, switch_item_adds}
@@ -19,7 +19,7 @@ use Rattle.c_parser.proofs.Refused.{refused}
 use Rattle.c_parser.proofs.Turns.{all_over, all_refused, all_turn, all_shorter}
 use Rattle.c_parser.proofs.body.+executing.Goals as goal
 
--- ---- the readers of each height
+-- ---- the parsers of each height
 
 pub statement::statement-returns-clause-reads : goal.statement::statement-returns-clause-reads
 statement::statement-returns-clause-reads t c =
@@ -108,16 +108,16 @@ iteration::for_begun-returns-in_err-step-clause-reads t c =
     (step_refused c.args.k low c.args.scope.now c.optional.new.scope c.optional.new.scope c.args.pos (for_init_of c.args.init.value) c.args.tokens.now test c.in_ok-test.rest.now c.in_ok-test.ensures.reads c.in_ok-test.ensures.scope)
     c.in_err-step.ensures.reads)
 
-pub iteration::for_begun-returns-in_err-turn-clause-reads : goal.iteration::for_begun-returns-in_err-turn-clause-reads
-iteration::for_begun-returns-in_err-turn-clause-reads t c =
+pub iteration::for_begun-returns-in_err-body-clause-reads : goal.iteration::for_begun-returns-in_err-body-clause-reads
+iteration::for_begun-returns-in_err-body-clause-reads t c =
     let low = statements c.args.k in
     let test = option_map expr_of c.in_ok-test.test.value in
     let step = option_map expr_of c.in_ok-step.step.value in
-    let p = err_from_is_err_and c.from_residual-in_err-turn.result c.from_residual-in_err-turn.ensures.1 in
-    rw (p.1, p.2) (refused _ (low.statement c.optional-2.new.scope c.in_ok-step.rest.now) c.in_err-turn.field-0.0
+    let p = err_from_is_err_and c.from_residual-in_err-body.result c.from_residual-in_err-body.ensures.1 in
+    rw (p.1, p.2) (refused _ (low.statement c.optional-2.new.scope c.in_ok-step.rest.now) c.in_err-body.field-0.0
     (turn_refused c.args.k low c.args.scope.now c.optional.new.scope c.optional-2.new.scope c.args.pos (for_init_of c.args.init.value) c.args.tokens.now test c.in_ok-test.rest.now c.in_ok-test.ensures.reads c.in_ok-test.ensures.scope
     step c.in_ok-step.rest.now c.in_ok-step.ensures.reads c.in_ok-step.ensures.scope)
-    c.in_err-turn.ensures.reads)
+    c.in_err-body.ensures.reads)
 
 pub iteration::for_begun-returns-clause-reads : goal.iteration::for_begun-returns-clause-reads
 iteration::for_begun-returns-clause-reads t c =
@@ -125,5 +125,5 @@ iteration::for_begun-returns-clause-reads t c =
     let test = option_map expr_of c.in_ok-test.test.value in
     let step = option_map expr_of c.in_ok-step.step.value in
     for_read c.args.k low c.args.scope.now c.optional.new.scope c.optional-2.new.scope c.args.pos (for_init_of c.args.init.value) c.args.tokens.now test c.in_ok-test.rest.now c.in_ok-test.ensures.reads c.in_ok-test.ensures.scope
-    step c.in_ok-step.rest.now c.in_ok-step.ensures.reads c.in_ok-step.ensures.scope (statement_of c.in_ok-turn.turn.value) c.in_ok-turn.rest.now c.in_ok-turn.ensures.reads
-    ∙ ap (λ node. Found node c.in_ok-turn.rest.now) (sym c.in_ok-node.ensures)
+    step c.in_ok-step.rest.now c.in_ok-step.ensures.reads c.in_ok-step.ensures.scope (statement_of c.in_ok-body.body.value) c.in_ok-body.rest.now c.in_ok-body.ensures.reads
+    ∙ ap (λ node. Found node c.in_ok-body.rest.now) (sym c.in_ok-node.ensures)

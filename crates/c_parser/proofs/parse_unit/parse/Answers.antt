@@ -1,6 +1,6 @@
 use Rattle.std.proofs.Common.{◌≡◌, map, sym, ◌∙◌, ap, subst}
 use Rattle.c_syntax.specs.Parsing.{SpelledBy, RefusedAt}
-use Rattle.c_syntax.specs.Reader.{Found, Stopped, Unfit, TooDeep}
+use Rattle.c_syntax.specs.Parser.{Found, Stopped, Unfit, TooDeep}
 use Rattle.c_syntax.specs.ReadBody.{externals}
 use Rattle.c_syntax.specs.ViewUnit.{external_of}
 use Rattle.c_syntax.proofs.ParseLaws.{spelled_by}

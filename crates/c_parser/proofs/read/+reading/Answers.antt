@@ -3,53 +3,53 @@ use Rattle.std.proofs.Common.{◌++◌, map, ap, sym, ◌∙◌, refl, subst, ar
 use Rattle.std.proofs.lemmas.Result.{err_from_is_err_and}
 use Rattle.c_parser.specs.Agree.{Gives, Refuses}
 use Rattle.c_syntax.specs.View.{expr_of, type_name_of, declarator_of, parameter_of, member_of, specifier_of}
-use Rattle.c_syntax.specs.Reader.{Found, exactly}
+use Rattle.c_syntax.specs.Parser.{Found, expect}
 use Rattle.c_syntax.specs.ReadExpr.{postfixes, infixes}
 use Rattle.c_syntax.specs.Scopes.{declarator_adds}
 use Rattle.c_parser.proofs.Pushed.{pushed, row_height, row_scope, expr_row}
 use Rattle.c_parser.proofs.ClimbTurns.{climb_start, climbed, too_high, climb_stopped, climb_on}
 use Rattle.c_parser.proofs.ManyTurns.{run_over, run_stopped, run_shorter, run_on}
 use Rattle.c_parser.proofs.ListTurns.{arguments_listed, declarators_listed, parameters_listed, enumerators_listed, listing_stopped, listing_last, listing_ended, listing_shorter, listing_on}
-use Rattle.c_syntax.specs.ReadSpecifier.{readers, all_members, come_with, comes}
+use Rattle.c_syntax.specs.ReadSpecifier.{parsers, all_members, type_seen_with, types_seen}
 use Rattle.c_syntax.proofs.HeightLaws.{expr_high}
 use Rattle.c_parser.proofs.Refused.{refused}
 use Rattle.c_parser.proofs.Turns.{then_stopped}
 use Rattle.c_lexer.specs.declared.punct.Punct.TheVariants as p
-use Rattle.c_parser.proofs.LowerReaders.{readers_at}
+use Rattle.c_parser.proofs.LowerParsers.{parsers_at}
 use Rattle.c_parser.proofs.read.+reading.Goals as goal
 use Rattle.std.proofs.lemmas.List.{append-nil}
 use Rattle.c_syntax.specs.ReadDeclarator.{qualifiers, suffix_on, suffixes, pointer}
 use Rattle.c_syntax.specs.Tree.{Omitted}
 use Rattle.c_syntax.specs.ReadToken.{is_mark}
-use Rattle.c_parser.proofs.SpecifierTurns.{body_refused, body_unclosed, many_stopped, enumerator_row, member_row, specifier_row, body_all, members_run, specifiers_run, comes_more, no_type, some_types}
-use Rattle.c_syntax.specs.declared.come.Come.TheVariants.{Nothing}
+use Rattle.c_parser.proofs.SpecifierTurns.{body_refused, body_unclosed, many_stopped, enumerator_row, member_row, specifier_row, body_all, members_run, specifiers_run, types_seen_more, no_type, some_types}
+use Rattle.c_syntax.specs.declared.type_seen.TypeSeen.TheVariants.{Nothing}
 use Rattle.c_parser.proofs.PushedDeclarator.{declarator_row, parameter_row}
 
--- ---- the readers of each height
+-- ---- the parsers of each height
 
 pub height::expr-returns-clause-reads : goal.height::expr-returns-clause-reads
 height::expr-returns-clause-reads t c =
-    subst (λ r. Gives (λ x. expr_of x.node.value) (r.expr c.args.scope.now c.args.level c.args.tokens.now) c.expr_at.result) (sym (readers_at c.args.h c.if-h-eq0.false)) c.expr_at.ensures.reads
+    subst (λ r. Gives (λ x. expr_of x.node.value) (r.expr c.args.scope.now c.args.level c.args.tokens.now) c.expr_at.result) (sym (parsers_at c.args.h c.if-h-eq0.false)) c.expr_at.ensures.reads
 
-pub height::grouped-returns-clause-reads : goal.height::grouped-returns-clause-reads
-height::grouped-returns-clause-reads t c =
-    subst (λ r. Gives (λ x. expr_of x.node.value) (r.grouped c.args.scope.now c.args.tokens.now) c.grouped_at.result) (sym (readers_at c.args.h c.if-h-eq0.false)) c.grouped_at.ensures.reads
+pub height::paren_expr-returns-clause-reads : goal.height::paren_expr-returns-clause-reads
+height::paren_expr-returns-clause-reads t c =
+    subst (λ r. Gives (λ x. expr_of x.node.value) (r.paren_expr c.args.scope.now c.args.tokens.now) c.paren_expr_at.result) (sym (parsers_at c.args.h c.if-h-eq0.false)) c.paren_expr_at.ensures.reads
 
 pub height::type_name-returns-clause-reads : goal.height::type_name-returns-clause-reads
 height::type_name-returns-clause-reads t c =
-    subst (λ r. Gives (λ x. type_name_of x.node.value) (r.type_name c.args.scope.now c.args.tokens.now) c.type_name_at.result) (sym (readers_at c.args.h c.if-h-eq0.false)) c.type_name_at.ensures.reads
+    subst (λ r. Gives (λ x. type_name_of x.node.value) (r.type_name c.args.scope.now c.args.tokens.now) c.type_name_at.result) (sym (parsers_at c.args.h c.if-h-eq0.false)) c.type_name_at.ensures.reads
 
 pub height::declarator-returns-clause-reads : goal.height::declarator-returns-clause-reads
 height::declarator-returns-clause-reads t c =
-    subst (λ r. Gives (λ x. declarator_of x.node.value) (r.declarator c.args.form c.args.scope.now c.args.tokens.now) c.declarator_at.result) (sym (readers_at c.args.h c.if-h-eq0.false)) c.declarator_at.ensures.reads
+    subst (λ r. Gives (λ x. declarator_of x.node.value) (r.declarator c.args.form c.args.scope.now c.args.tokens.now) c.declarator_at.result) (sym (parsers_at c.args.h c.if-h-eq0.false)) c.declarator_at.ensures.reads
 
 pub height::parameter-returns-clause-reads : goal.height::parameter-returns-clause-reads
 height::parameter-returns-clause-reads t c =
-    subst (λ r. Gives (λ x. parameter_of x.node.value) (r.parameter c.args.scope.now c.args.tokens.now) c.parameter_at.result) (sym (readers_at c.args.h c.if-h-eq0.false)) c.parameter_at.ensures.reads
+    subst (λ r. Gives (λ x. parameter_of x.node.value) (r.parameter c.args.scope.now c.args.tokens.now) c.parameter_at.result) (sym (parsers_at c.args.h c.if-h-eq0.false)) c.parameter_at.ensures.reads
 
 pub height::member-returns-clause-reads : goal.height::member-returns-clause-reads
 height::member-returns-clause-reads t c =
-    subst (λ r. Gives (λ x. member_of x.node.value) (r.member c.args.scope.now c.args.tokens.now) c.member_at.result) (sym (readers_at c.args.h c.if-h-eq0.false)) c.member_at.ensures.reads
+    subst (λ r. Gives (λ x. member_of x.node.value) (r.member c.args.scope.now c.args.tokens.now) c.member_at.result) (sym (parsers_at c.args.h c.if-h-eq0.false)) c.member_at.ensures.reads
 
 -- ---- postfix operators
 
@@ -148,7 +148,7 @@ declarator::pointer-returns-in_err-words-clause-reads t c =
 pub declarator::unnamed_array-returns-in_err-left-clause-reads : goal.declarator::unnamed_array-returns-in_err-left-clause-reads
 declarator::unnamed_array-returns-in_err-left-clause-reads t c =
     let scope = c.args.scope.now in
-    let first = suffix_on c.args.k (readers c.args.k) scope in
+    let first = suffix_on c.args.k (parsers c.args.k) scope in
     let p = err_from_is_err_and c.from_residual-in_err-left.result c.from_residual-in_err-left.ensures.1 in
     let none = ap (λ d. scope ++ declarator_adds d) c.in_ok-inner.ensures.tree ∙ append-nil scope in
     rw (p.1, p.2) (refused _ (first Omitted c.args.tokens.now) c.in_err-left.field-0.0
@@ -194,20 +194,20 @@ enumeration::listed_enumerators-each-preserved t c =
 
 pub compound::compound_body-returns-clause-reads : goal.compound::compound_body-returns-clause-reads
 compound::compound_body-returns-clause-reads t c =
-    rw (body_all c.args.k (readers c.args.k) c.args.scope.now c.args.pos c.args.word c.args.tag c.args.tokens.now) (search rules)
+    rw (body_all c.args.k (parsers c.args.k) c.args.scope.now c.args.pos c.args.word c.args.tag c.args.tokens.now) (search rules)
 
 pub compound::compound_body-returns-in_err-all-clause-reads : goal.compound::compound_body-returns-in_err-all-clause-reads
 compound::compound_body-returns-in_err-all-clause-reads t c =
     let p = err_from_is_err_and c.from_residual.result c.from_residual.ensures.1 in
-    rw (p.1, p.2) (refused _ (all_members c.args.k (readers c.args.k) c.args.scope.now c.args.tokens.now) c.in_err-all.field-0.0
-    (λ why rest e. body_refused c.args.k (readers c.args.k) c.args.scope.now c.args.pos c.args.word c.args.tag c.args.tokens.now rest why e)
+    rw (p.1, p.2) (refused _ (all_members c.args.k (parsers c.args.k) c.args.scope.now c.args.tokens.now) c.in_err-all.field-0.0
+    (λ why rest e. body_refused c.args.k (parsers c.args.k) c.args.scope.now c.args.pos c.args.word c.args.tag c.args.tokens.now rest why e)
     c.in_err-all.ensures.reads)
 
 pub compound::compound_body-returns-in_err-rest-clause-reads : goal.compound::compound_body-returns-in_err-rest-clause-reads
 compound::compound_body-returns-in_err-rest-clause-reads t c =
     let q = err_from_is_err_and c.from_residual-in_err-rest.result c.from_residual-in_err-rest.ensures.1 in
-    rw (q.1, q.2) (refused _ (exactly (is_mark p.CloseBrace) c.in_ok-all.rest.now) c.in_err-rest.field-0.0
-    (λ why rest e. body_unclosed c.args.k (readers c.args.k) c.args.scope.now c.args.pos c.args.word c.args.tag c.args.tokens.now c.in_ok-all.rest.now rest why _ c.in_ok-all.ensures.reads e)
+    rw (q.1, q.2) (refused _ (expect (is_mark p.CloseBrace) c.in_ok-all.rest.now) c.in_err-rest.field-0.0
+    (λ why rest e. body_unclosed c.args.k (parsers c.args.k) c.args.scope.now c.args.pos c.args.word c.args.tag c.args.tokens.now c.in_ok-all.rest.now rest why _ c.in_ok-all.ensures.reads e)
     c.in_err-rest.ensures)
 
 pub compound::all_members-returns-in_err-one-clause-reads : goal.compound::all_members-returns-in_err-one-clause-reads
@@ -234,31 +234,31 @@ pub specifier::specifiers-returns-in_err-one-clause-reads : goal.specifier::spec
 specifier::specifiers-returns-in_err-one-clause-reads t c =
     let p = err_from_is_err_and c.from_residual.result c.from_residual.ensures.1 in
     rw (p.1, p.2) (refused _ _ c.in_err-one.field-0.0 (many_stopped c.args.h c.args.scope.now c.args.tokens.now)
-    (run_stopped (specifiers_run c.args.h) _ (record { scope = c.each.scope; come = c.each.come }) c.each.rest.now c.each.invariant.reads (sym c.goes_specifier.ensures ∙ c.each-test.true) c.in_err-one.field-0.0 c.in_err-one.ensures.reads))
+    (run_stopped (specifiers_run c.args.h) _ (record { scope = c.each.scope; type_seen = c.each.type_seen }) c.each.rest.now c.each.invariant.reads (sym c.goes_specifier.ensures ∙ c.each-test.true) c.in_err-one.field-0.0 c.in_err-one.ensures.reads))
 
 pub specifier::specifiers-returns-then-is_nothing-clause-reads : goal.specifier::specifiers-returns-then-is_nothing-clause-reads
 specifier::specifiers-returns-then-is_nothing-clause-reads t c =
-    no_type c.args.h c.args.scope.now c.args.tokens.now c.each.rest.now (map specifier_of c.each.all.nodes.items) c.each.come c.each.invariant.come
-    (run_over (specifiers_run c.args.h) _ (record { scope = c.each.scope; come = c.each.come }) c.each.rest.now c.each.invariant.reads (sym c.goes_specifier.ensures ∙ c.each-test.false))
+    no_type c.args.h c.args.scope.now c.args.tokens.now c.each.rest.now (map specifier_of c.each.all.nodes.items) c.each.type_seen c.each.invariant.type_seen
+    (run_over (specifiers_run c.args.h) _ (record { scope = c.each.scope; type_seen = c.each.type_seen }) c.each.rest.now c.each.invariant.reads (sym c.goes_specifier.ensures ∙ c.each-test.false))
     (sym c.is_nothing.ensures ∙ c.if-is_nothing.true)
 
 pub specifier::specifiers-returns-clause-reads : goal.specifier::specifiers-returns-clause-reads
 specifier::specifiers-returns-clause-reads t c =
-    some_types c.args.h c.args.scope.now c.args.tokens.now c.each.rest.now (map specifier_of c.each.all.nodes.items) c.each.come c.each.invariant.come
-    (run_over (specifiers_run c.args.h) _ (record { scope = c.each.scope; come = c.each.come }) c.each.rest.now c.each.invariant.reads (sym c.goes_specifier.ensures ∙ c.each-test.false))
+    some_types c.args.h c.args.scope.now c.args.tokens.now c.each.rest.now (map specifier_of c.each.all.nodes.items) c.each.type_seen c.each.invariant.type_seen
+    (run_over (specifiers_run c.args.h) _ (record { scope = c.each.scope; type_seen = c.each.type_seen }) c.each.rest.now c.each.invariant.reads (sym c.goes_specifier.ensures ∙ c.each-test.false))
     (sym c.is_nothing.ensures ∙ c.if-is_nothing.false)
 
 pub specifier::specifiers-each-smaller : goal.specifier::specifiers-each-smaller
-specifier::specifiers-each-smaller t c = run_shorter (specifiers_run c.args.h) _ (record { scope = c.each.scope; come = c.each.come }) c.each.rest.now c.each.invariant.reads (sym c.goes_specifier.ensures ∙ c.each-test.true) c.in_ok-one.ensures.reads
+specifier::specifiers-each-smaller t c = run_shorter (specifiers_run c.args.h) _ (record { scope = c.each.scope; type_seen = c.each.type_seen }) c.each.rest.now c.each.invariant.reads (sym c.goes_specifier.ensures ∙ c.each-test.true) c.in_ok-one.ensures.reads
 
 pub specifier::specifiers-each-preserved : goal.specifier::specifiers-each-preserved
 specifier::specifiers-each-preserved t c =
     let one = c.in_ok-one.one.node.value in
     let more = pushed specifier_of _ _ _ c.in_ok-push.ensures.nodes in
-    let come = c.come_with-come.ensures ∙ ap (λ x. come_with c.each.come (specifier_of x)) c.deref.ensures in
+    let type_seen = c.type_seen_with-type_seen.ensures ∙ ap (λ x. type_seen_with c.each.type_seen (specifier_of x)) c.deref.ensures in
     record {
-      reads = run_on (specifiers_run c.args.h) _ (record { scope = c.each.scope; come = c.each.come }) c.each.rest.now c.each.invariant.reads (sym c.goes_specifier.ensures ∙ c.each-test.true) c.in_ok-one.ensures.reads more (λ i. record { scope = c.in_ok-one.ensures.scope i; come = come i });
-      come = come ∙ ap (λ come. come_with come (specifier_of one)) c.each.invariant.come ∙ sym (comes_more Nothing (map specifier_of c.each.all.nodes.items) (specifier_of one)) ∙ sym (ap (comes Nothing) more);
+      reads = run_on (specifiers_run c.args.h) _ (record { scope = c.each.scope; type_seen = c.each.type_seen }) c.each.rest.now c.each.invariant.reads (sym c.goes_specifier.ensures ∙ c.each-test.true) c.in_ok-one.ensures.reads more (λ i. record { scope = c.in_ok-one.ensures.scope i; type_seen = type_seen i });
+      type_seen = type_seen ∙ ap (λ type_seen. type_seen_with type_seen (specifier_of one)) c.each.invariant.type_seen ∙ sym (types_seen_more Nothing (map specifier_of c.each.all.nodes.items) (specifier_of one)) ∙ sym (ap (types_seen Nothing) more);
       height = row_height specifier_row c.in_ok-push.ensures.nodes c.each.invariant.height c.in_ok-push.ensures.height c.in_ok-one.ensures.height;
       scope = row_scope specifier_row _ _ _ c.in_ok-push.ensures.nodes c.each.invariant.scope c.in_ok-one.ensures.scope;
     }

@@ -2,7 +2,7 @@ use Rattle.std.proofs.Common.{rules, ◌∙◌, ap, append_assoc}
 use Rattle.std.proofs.lemmas.Result.{IfOk-equal}
 use Rattle.c_syntax.specs.Spelling.{spell, spell_specifier, spell_declarator}
 use Rattle.c_syntax.specs.View.{expr_of, specifier_of, declarator_of}
-use Rattle.c_syntax.proofs.Parts.{spells_call, spells_measure, spells_cast, spells_specifiers, spells_compound, spells_enum, spells_function, spells_member}
+use Rattle.c_syntax.proofs.SpelledLists.{spells_call, spells_measure, spells_cast, spells_specifiers, spells_compound, spells_enum, spells_function, spells_member}
 use Rattle.c_syntax.proofs.spell_expression.+spelling.Goals as goal
 
 pub expression-returns-in_ok-arguments-in-Call : goal.expression-returns-in_ok-arguments-in-Call

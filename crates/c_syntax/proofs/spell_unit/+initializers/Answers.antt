@@ -2,7 +2,7 @@ use Rattle.std.proofs.Common.{rules, ◌∙◌, ap, append_assoc}
 use Rattle.std.proofs.lemmas.Result.{IfOk-equal}
 use Rattle.c_syntax.specs.SpellingUnit.{spell_initializer}
 use Rattle.c_syntax.specs.ViewUnit.{initializer_of}
-use Rattle.c_syntax.proofs.PartsUnit.{spells_braces}
+use Rattle.c_syntax.proofs.SpelledListsUnit.{spells_braces}
 use Rattle.c_syntax.proofs.spell_unit.+initializers.Goals as goal
 
 pub initializer-returns-in_ok-comma_if-in-Braces : goal.initializer-returns-in_ok-comma_if-in-Braces

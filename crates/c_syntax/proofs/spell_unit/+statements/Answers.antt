@@ -2,7 +2,7 @@ use Rattle.std.proofs.Common.{rules, ◌∙◌, ap, append_assoc}
 use Rattle.std.proofs.lemmas.Result.{IfOk-equal}
 use Rattle.c_syntax.specs.SpellingUnit.{spell_statement}
 use Rattle.c_syntax.specs.ViewUnit.{statement_of}
-use Rattle.c_syntax.proofs.PartsUnit.{spells_block, spells_switch}
+use Rattle.c_syntax.proofs.SpelledListsUnit.{spells_block, spells_switch}
 use Rattle.c_syntax.proofs.spell_unit.+statements.Goals as goal
 
 pub statement-returns-in-Block : goal.statement-returns-in-Block

@@ -1,6 +1,6 @@
 -- Each call ends by what is left of the height, and within one height by who calls whom.
 use Rattle.std.proofs.Common.{◌≡◌, List, Bool, length, map, ◌+◌, ◌*◌, ◌++◌}
-use Rattle.c_syntax.specs.Reader.{and_then, give}
+use Rattle.c_syntax.specs.Parser.{and_then, pure}
 use Rattle.c_syntax.specs.ReadBody.{initializers, listed_items, items}
 use Rattle.c_syntax.specs.ScopesUnit.{items_add}
 use Rattle.c_syntax.specs.TreeUnit.{Item}
@@ -22,7 +22,7 @@ decreases-listed_items l = 64 * l.k + 1
 abbrev pub invariant-listed_items-each : goal.invariant-listed_items-each
 invariant-listed_items-each l = record {
   reads : listed_items l.k (initializers l.k) l.fn.scope l.tokens
-      ≡ and_then (listed_items l.k (initializers l.k) l.scope l.rest) (λ more. give {A = List Item × Bool} (map item_of l.items.items ++ more.0, more.1));
+      ≡ and_then (listed_items l.k (initializers l.k) l.scope l.rest) (λ more. pure {A = List Item × Bool} (map item_of l.items.items ++ more.0, more.1));
   scope : l.scope ≡ l.fn.scope ++ items_add (items (map item_of l.items.items));
 }
 

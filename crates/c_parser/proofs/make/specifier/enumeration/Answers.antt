@@ -1,6 +1,6 @@
 use Rattle.std.proofs.Common.{ap, ◌∙◌}
 use Rattle.c_syntax.specs.View.{specifier_of}
-use Rattle.c_syntax.proofs.Parts.{enum_tree}
+use Rattle.c_syntax.proofs.SpelledLists.{enum_tree}
 use Rattle.c_parser.proofs.make.specifier.enumeration.Goals as goal
 
 pub returns-clause-tree : goal.returns-clause-tree

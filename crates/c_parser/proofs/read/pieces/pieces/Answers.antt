@@ -1,5 +1,5 @@
 use Rattle.std.proofs.Common.{◌≡◌, [], ◌∷◌, ◌++◌, refl, sym, ◌∙◌, ap}
-use Rattle.c_syntax.specs.Reader.{Found}
+use Rattle.c_syntax.specs.Parser.{Found}
 use Rattle.c_syntax.specs.ReadExpr.{pieces}
 use Rattle.c_syntax.proofs.OnlineExpr.{piece_online, piece_takes, no_literal}
 use Rattle.c_parser.proofs.Turns.{all_over, all_turn}

@@ -1,14 +1,14 @@
 use Rattle.std.proofs.Common.{◌≡◌, false, List, Some, None, Option, is_some, refl, sym, ◌∙◌, ap}
 use Rattle.c_lexer.specs.declared.token.Token.{Token}
 use Rattle.c_syntax.specs.declared.specifier.Qualifier.{Qualifier}
-use Rattle.c_syntax.specs.Reader.{Found, seen, tail}
+use Rattle.c_syntax.specs.Parser.{Found, next_body, tail}
 use Rattle.c_syntax.specs.ReadToken.{qualifier_of}
 use Rattle.c_syntax.specs.ReadDeclarator.{qualifier_by, qualifier, qualifiers}
 use Rattle.c_syntax.proofs.OnlineDeclarator.{qualifier_online, qualifier_takes}
 use Rattle.c_parser.proofs.Turns.{all_over, all_turn}
 use Rattle.c_parser.proofs.read.qualifier.qualifiers.Goals as goal
 
-read_one : (tokens rest : List Token) (word : Qualifier) → Some word ≡ qualifier_of (seen tokens) → rest ≡ tail tokens → qualifier tokens ≡ Found word rest
+read_one : (tokens rest : List Token) (word : Qualifier) → Some word ≡ qualifier_of (next_body tokens) → rest ≡ tail tokens → qualifier tokens ≡ Found word rest
 unfolding qualifier
 read_one tokens rest word e past = ap (λ o. qualifier_by o tokens) (sym e) ∙ ap (λ ts. Found word ts) (sym past)
 

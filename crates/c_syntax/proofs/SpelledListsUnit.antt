@@ -20,7 +20,7 @@ use Rattle.c_syntax.specs.ReadBody.{items}
 use Rattle.c_syntax.specs.TreeUnit.{Braces, MoreItems}
 use Rattle.c_syntax.specs.View.{expr_of, specifier_of, declarator_of}
 use Rattle.c_syntax.specs.ViewUnit.{initializer_of, item_of, items_row, init_declarator_of, declaration_of, statement_of, block_item_of, block_row, block_items, switch_item_of, switch_row, function_of}
-use Rattle.c_syntax.proofs.Parts.{spells_specifiers}
+use Rattle.c_syntax.proofs.SpelledLists.{spells_specifiers}
 
 -- ---- lists
 

@@ -1,6 +1,6 @@
 /// Whether a type has come: none, basic words, or another that stands alone (6.7.2p2).
 #[derive(Clone, Copy)]
-pub enum Come {
+pub enum TypeSeen {
     Nothing,
     Basic,
     Other,

@@ -77,20 +77,20 @@ measure_row : e.Expr → (count : _) × s.Row_of-Specifier count
 measure_row (e.Measure' _ _ _ _ row _) = (_, row)
 measure_row _ = (_, s.end_of-Specifier)
 
-pub measured : (pos : Pos) (operator : Measure) (type : Box t.TypeName Global)
-    → expr_of (e.Measure pos operator type) ≡ tree.Measure' pos operator (type_name_of type.value)
+pub type_measure : (pos : Pos) (operator : Measure) (type : Box t.TypeName Global)
+    → expr_of (e.Measure pos operator type) ≡ tree.MeasureOp pos operator (type_name_of type.value)
 unfolding measure_row
-measured pos operator type =
+type_measure pos operator type =
     let row = measure_row (e.Measure pos operator type) in
     ap
-    (λ list. tree.Measure' pos operator (tree.Type' list (declarator_of type.value.declarator)))
+    (λ list. tree.MeasureOp pos operator (tree.NamedType list (declarator_of type.value.declarator)))
     (specifiers_listed row.0 row.1 ∙ ap specifiers_of (s.items_hidden-the_row-Specifier-0 type.value.specifiers))
 
 pub spells_measure : (pos : Pos) (operator : Measure) (type : Box t.TypeName Global)
     → spell (expr_of (e.Measure pos operator type))
     ≡ word_at pos (measure_word operator)
     ∷ mark punct.OpenParen ∷ spell_type_name (type_name_of type.value) ++ mark punct.CloseParen ∷ []
-spells_measure pos operator type = ap spell (measured pos operator type)
+spells_measure pos operator type = ap spell (type_measure pos operator type)
 
 cast_row : e.Expr → (count : _) × s.Row_of-Specifier count
 cast_row (e.Cast' _ _ _ row _ _ _) = (_, row)
@@ -102,7 +102,7 @@ unfolding cast_row
 casts pos type operand =
     let row = cast_row (e.Cast pos type operand) in
     ap
-    (λ list. tree.Cast pos (tree.Type' list (declarator_of type.value.declarator)) (expr_of operand.value))
+    (λ list. tree.Cast pos (tree.NamedType list (declarator_of type.value.declarator)) (expr_of operand.value))
     (specifiers_listed row.0 row.1 ∙ ap specifiers_of (s.items_hidden-the_row-Specifier-0 type.value.specifiers))
 
 pub spells_cast : (pos : Pos) (type : Box t.TypeName Global) (operand : Box e.Expr Global)
