@@ -5,9 +5,9 @@ use Rattle.c_lexer.specs.declared.token.Token.{Token}
 use Rattle.c_lexer.specs.declared.token.Body.{Body}
 use Rattle.c_parser.specs.declared.fault.Fault.{Fault}
 use Rattle.c_parser.specs.Agree.{Refuses}
-use Rattle.c_syntax.specs.Parser.{Outcome, Found, Stopped, TooDeep, Parser, next_body, climb}
+use Rattle.c_reading.specs.Parser.{Outcome, Found, Stopped, TooDeep, Parser, next_body, climb}
 use Rattle.c_syntax.specs.Scopes.{Scope}
-use Rattle.c_syntax.proofs.Again.{climb_over}
+use Rattle.c_reading.proofs.Full.Steps.{climb_over}
 use Rattle.c_parser.proofs.Refused.{refused}
 use Rattle.c_parser.proofs.Turns.{climb_deep, climb_refused, climb_turn}
 

@@ -3,14 +3,14 @@ use Rattle.std.proofs.Common.{◌≡◌, ℕ, List, ◌++◌, Option, sym, ◌�
 use Rattle.critical_table.specs.declared.pos.Pos.{Pos}
 use Rattle.c_lexer.specs.declared.punct.Punct.TheVariants as p
 use Rattle.c_lexer.specs.declared.token.Token.{Token}
-use Rattle.c_syntax.specs.Parser.{Found, Stopped, Why, Parser, and_then, ◌>>=◌, pure}
-use Rattle.c_syntax.specs.ReadBody.{Statements, optional, for_begun}
-use Rattle.c_syntax.specs.ReadToken.{is_mark}
+use Rattle.c_reading.specs.Parser.{Found, Stopped, Why, Parser, and_then, ◌>>=◌, pure}
+use Rattle.c_reading.specs.ReadBody.{Statements, optional, for_begun}
+use Rattle.c_reading.specs.ReadToken.{is_mark}
 use Rattle.c_syntax.specs.Scopes.{Scope}
 use Rattle.c_syntax.specs.ScopesUnit.{optional_adds}
 use Rattle.c_syntax.specs.Tree.{Expr}
 use Rattle.c_syntax.specs.TreeUnit.{ForInit, Statement, For}
-use Rattle.c_syntax.proofs.Again.{then_read}
+use Rattle.c_reading.proofs.Full.Steps.{then_read}
 
 module _ (k : ℕ) (low : Statements) (scope tested stepped : Scope) (pos : Pos) (init : ForInit) (tokens : List Token) (test : Option Expr) (mid : List Token)
     (test_read : optional k low (is_mark p.Semicolon) scope tokens ≡ Found test mid) (in_test : tested ≡ scope ++ optional_adds test) where

@@ -1,3 +1,4 @@
+-- Lemmas on the functions of the parser.
 mod NextToken
 mod LowerParsers
 mod Turns

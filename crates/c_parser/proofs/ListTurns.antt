@@ -4,18 +4,18 @@ use Rattle.c_lexer.specs.declared.punct.Punct.TheVariants as p
 use Rattle.c_lexer.specs.declared.token.Token.{Token}
 use Rattle.c_lexer.specs.declared.token.Body.{Body}
 use Rattle.c_parser.specs.declared.fault.Fault.{Fault}
-use Rattle.c_syntax.specs.declared.declarator_form.DeclaratorForm.TheVariants as form
+use Rattle.c_reading.specs.declared.declarator_form.DeclaratorForm.TheVariants as form
 use Rattle.c_parser.specs.Agree.{Refuses}
 use Rattle.c_syntax.specs.Levels.{assignment}
-use Rattle.c_syntax.specs.Parser.{Found, Parser, and_then, pure, skip, next_body, tail, comma_list}
-use Rattle.c_syntax.specs.ReadDeclarator.{listed_declarators, listed_parameters}
-use Rattle.c_syntax.specs.ReadExpr.{listed_arguments}
-use Rattle.c_syntax.specs.ReadSpecifier.{parsers, enumerator, listed_enumerators}
-use Rattle.c_syntax.specs.ReadToken.{is_mark}
+use Rattle.c_reading.specs.Parser.{Found, Parser, and_then, pure, skip, next_body, tail, comma_list}
+use Rattle.c_reading.specs.ReadDeclarator.{listed_declarators, listed_parameters}
+use Rattle.c_reading.specs.ReadExpr.{listed_arguments}
+use Rattle.c_reading.specs.ReadSpecifier.{parsers, enumerator, listed_enumerators}
+use Rattle.c_reading.specs.ReadToken.{is_mark}
 use Rattle.c_syntax.specs.Scopes.{Scope, expr_adds, declarator_adds, parameter_adds, enumerator_adds}
-use Rattle.c_syntax.proofs.Online.{parsers_online, parsers_take}
-use Rattle.c_syntax.proofs.OnlineSpecifier.{enumerator_online}
-use Rattle.c_syntax.proofs.OnlineTools.{Online, online_pure, online_skip}
+use Rattle.c_reading.proofs.Online.All.{parsers_online, parsers_take}
+use Rattle.c_reading.proofs.Online.Specifier.{enumerator_online}
+use Rattle.c_reading.proofs.Online.Steps.{Online, online_pure, online_skip}
 use Rattle.c_parser.proofs.Pushed.{Row, pushed, row_height, row_scope}
 use Rattle.c_parser.proofs.Refused.{refused}
 use Rattle.c_parser.proofs.Turns.{list_refused, list_last, list_ended, list_turn, mark_shorter}

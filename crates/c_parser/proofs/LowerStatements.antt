@@ -1,7 +1,7 @@
 -- The parsers of statements and declarations of a height by those of the height below.
 use Rattle.std.proofs.Common.{◌≡◌, ℕ, zero, suc, ◌-◌, refl, subst, arith}
 use Rattle.c_syntax.specs.Scopes.{Scope}
-use Rattle.c_syntax.specs.ReadBody.{Statements, statements, statement_at, block_item_at, switch_item_at, declaration_at, declaration_lower}
+use Rattle.c_reading.specs.ReadBody.{Statements, statements, statement_at, block_item_at, switch_item_at, declaration_at, declaration_lower}
 
 abbrev pub above : ℕ → Statements
 above k = record { statement = statement_at k (statements k); block_item = block_item_at k (statements k); switch_item = switch_item_at k (statements k) }

@@ -4,8 +4,8 @@ use Rattle.c_lexer.specs.declared.token.Token.{Token}
 use Rattle.c_lexer.specs.declared.token.Body.{Body}
 use Rattle.c_parser.specs.declared.fault.Fault.{Fault}
 use Rattle.c_parser.specs.Agree.{Refuses}
-use Rattle.c_syntax.specs.Parser.{Outcome, Found, Parser, and_then, pure, next_body, many}
-use Rattle.c_syntax.proofs.OnlineTools.{Online, TakesOne}
+use Rattle.c_reading.specs.Parser.{Outcome, Found, Parser, and_then, pure, next_body, many}
+use Rattle.c_reading.proofs.Online.Steps.{Online, TakesOne}
 use Rattle.c_parser.proofs.Refused.{refused}
 use Rattle.c_parser.proofs.Turns.{all_over, all_refused, all_turn, all_shorter}
 

@@ -9,8 +9,8 @@ use Rattle.c_lexer.specs.Words.{word_text}
 use Rattle.c_lexer.specs.declared.punct.Punct.{Punct}
 use Rattle.c_lexer.specs.declared.token.Body.TheVariants as lexeme
 use Rattle.c_lexer.specs.declared.word.Word.{Word}
-use Rattle.c_syntax.specs.ReadToken.{is_mark, is_word}
-use Rattle.c_syntax.proofs.TokenTests.{one_mark, one_word}
+use Rattle.c_reading.specs.ReadToken.{is_mark, is_word}
+use Rattle.c_reading.proofs.TokenTests.{one_mark, one_word}
 
 is_false : (x : Bool) → (x ≡ true → ⊥) → false ≡ x
 is_false true h = absurd (h refl)

@@ -2,7 +2,8 @@
 use Rattle.std.proofs.Common.{◌≡◌, ℕ, Bool, List, [], ◌∷◌, ◌++◌, map, sym, ◌∙◌, ap, append_assoc}
 use Rattle.std.proofs.lemmas.List.{append-nil}
 use Rattle.c_syntax.specs.declared.initializer.Item as m
-use Rattle.c_syntax.specs.ReadBody.{items, init_declarator_adds}
+use Rattle.c_reading.specs.ReadBody.{init_declarator_adds}
+use Rattle.c_syntax.specs.ViewUnit.{items}
 use Rattle.c_syntax.specs.ScopesUnit.{item_adds, items_add, init_declarators_add}
 use Rattle.c_syntax.specs.TreeUnit.{InitDeclarator}
 use Rattle.c_syntax.specs.ViewUnit.{item_of}

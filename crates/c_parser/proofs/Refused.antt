@@ -2,7 +2,7 @@
 use Rattle.std.proofs.Common.{◌≡◌, List}
 use Rattle.c_lexer.specs.declared.token.Token.{Token}
 use Rattle.c_parser.specs.Agree.{Refuses}
-use Rattle.c_syntax.specs.Parser.{Outcome, Stopped, Why, Unfit, TooDeep}
+use Rattle.c_reading.specs.Parser.{Outcome, Stopped, Why, Unfit, TooDeep}
 use Rattle.c_parser.specs.declared.fault.Fault.{Fault}
 use Rattle.c_parser.specs.declared.fault.Fault.TheVariants as fault
 

@@ -5,7 +5,7 @@ use Rattle.c_syntax.specs.declared.expression.Expr as e
 use Rattle.c_syntax.specs.declared.statement.Statement as s
 use Rattle.c_syntax.specs.declared.statement.BlockItem as b
 use Rattle.c_syntax.specs.declared.statement.SwitchItem as w
-use Rattle.c_syntax.specs.ReadBody.{switch_items}
+use Rattle.c_syntax.specs.ViewUnit.{switch_items}
 use Rattle.c_syntax.specs.TreeUnit.{Block, MoreBlockItems, Switch, MoreSwitchItems}
 use Rattle.c_syntax.specs.View.{expr_of}
 use Rattle.c_syntax.specs.ViewUnit.{statement_of, block_item_of, block_row, block_items, switch_item_of, switch_row}

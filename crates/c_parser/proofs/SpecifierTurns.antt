@@ -4,24 +4,24 @@ use Rattle.std.proofs.lemmas.List.{append-nil}
 use Rattle.critical_table.specs.declared.pos.Pos.{Pos}
 use Rattle.c_lexer.specs.declared.punct.Punct.TheVariants as p
 use Rattle.c_lexer.specs.declared.token.Token.{Token}
-use Rattle.c_syntax.specs.declared.type_seen.TypeSeen.{TypeSeen}
-use Rattle.c_syntax.specs.declared.type_seen.TypeSeen.TheVariants.{Nothing, Basic, Other}
+use Rattle.c_reading.specs.declared.type_seen.TypeSeen.{TypeSeen}
+use Rattle.c_reading.specs.declared.type_seen.TypeSeen.TheVariants.{Nothing, Basic, Other}
 use Rattle.c_syntax.specs.declared.specifier.CompoundWord.{CompoundWord}
 use Rattle.c_syntax.specs.declared.specifier.Enumerator as n
 use Rattle.c_syntax.specs.declared.specifier.MemberDeclaration as m
 use Rattle.c_syntax.specs.declared.specifier.Specifier as s
 use Rattle.c_syntax.specs.declared.specifier.Tag.{Tag}
 use Rattle.c_syntax.specs.Height.{enumerator_height, enumerators_height, member_height, members_height, specifier_height, specifiers_height}
-use Rattle.c_syntax.specs.Parser.{Outcome, Found, Stopped, Why, Unfit, Parser, and_then, ◌>>=◌, pure, peek, here, expect, many}
-use Rattle.c_syntax.specs.ReadToken.{is_mark, begins_type}
-use Rattle.c_syntax.specs.ReadExpr.{Parsers}
-use Rattle.c_syntax.specs.ReadSpecifier.{Specified, is_nothing, goes_specifier, type_seen_with, specified_with, types_seen, all_members, more_members, compound_body, low_specifier, specifier_at, specifier_within, with_type, specifiers_by, parsers}
+use Rattle.c_reading.specs.Parser.{Outcome, Found, Stopped, Why, Unfit, Parser, and_then, ◌>>=◌, pure, peek, here, expect, many}
+use Rattle.c_reading.specs.ReadToken.{is_mark, begins_type}
+use Rattle.c_reading.specs.ReadExpr.{Parsers}
+use Rattle.c_reading.specs.ReadSpecifier.{Specified, is_nothing, goes_specifier, type_seen_with, specified_with, types_seen, all_members, more_members, compound_body, low_specifier, specifier_at, specifier_within, with_type, specifiers_by, parsers}
 use Rattle.c_syntax.specs.Scopes.{Scope, enumerator_adds, enumerators_add, member_adds, members_add, specifier_adds, specifiers_add}
 use Rattle.c_syntax.specs.Tree.{Specifier, Compound, MemberDeclaration}
 use Rattle.c_syntax.specs.View.{enumerator_of, enumerators, member_of, members, specifier_of, specifiers_of, specifiers}
-use Rattle.c_syntax.proofs.Online.{parsers_online, parsers_take}
-use Rattle.c_syntax.proofs.OnlineSpecifier.{low_specifier_online, low_specifier_takes, specifier_at_online, specifier_at_takes}
-use Rattle.c_syntax.proofs.OnlineTools.{Online, TakesOne}
+use Rattle.c_reading.proofs.Online.All.{parsers_online, parsers_take}
+use Rattle.c_reading.proofs.Online.Specifier.{low_specifier_online, low_specifier_takes, specifier_at_online, specifier_at_takes}
+use Rattle.c_reading.proofs.Online.Steps.{Online, TakesOne}
 use Rattle.c_parser.proofs.Pushed.{Row}
 use Rattle.c_parser.proofs.ManyTurns.{Runs}
 use Rattle.c_parser.proofs.Turns.{and_then_both}

@@ -5,11 +5,11 @@ use Rattle.c_lexer.specs.declared.punct.Punct.{Punct}
 use Rattle.c_lexer.specs.declared.token.Body.TheVariants as lexeme
 use Rattle.c_lexer.specs.declared.token.Token.{Token}
 use Rattle.c_lexer.specs.declared.token.Body.{Body}
-use Rattle.c_syntax.specs.Parser.{Outcome, Found, Stopped, Why, TooDeep, Parser, and_then, ◌>>=◌, pure, next_body, tail, many, climb, ones, has_ending, behind_comma, more_listed, comma_list}
-use Rattle.c_syntax.proofs.Again.{then_read, chosen_first, chosen_second, climb_step, tail_shorter}
-use Rattle.c_syntax.specs.ReadToken.{is_mark}
-use Rattle.c_syntax.proofs.TokenTests.{is_mark_is}
-use Rattle.c_syntax.proofs.OnlineTools.{Online, TakesOne, no_longer, many_is, behind_online, behind_takes, no_comma}
+use Rattle.c_reading.specs.Parser.{Outcome, Found, Stopped, Why, TooDeep, Parser, and_then, ◌>>=◌, pure, next_body, tail, many, climb, ones, has_ending, behind_comma, more_listed, comma_list}
+use Rattle.c_reading.proofs.Full.Steps.{then_read, chosen_first, chosen_second, climb_step, tail_shorter}
+use Rattle.c_reading.specs.ReadToken.{is_mark}
+use Rattle.c_reading.proofs.TokenTests.{is_mark_is}
+use Rattle.c_reading.proofs.Online.Steps.{Online, TakesOne, no_longer, many_is, behind_online, behind_takes, no_comma}
 
 pub then_stopped : {A B : Type 0} (g : Outcome A) (f : A → Parser B) (why : Why) (rest : List Token) → g ≡ Stopped why rest → and_then g f ≡ Stopped why rest
 then_stopped g f why rest e = ap (λ g. and_then g f) e

@@ -3,12 +3,12 @@ use Rattle.std.proofs.Common.{◌≡◌, ℕ, suc, arith, Bool, true, false, ◌
 use Rattle.std.proofs.lemmas.Bool.{eqb-true}
 use Rattle.std.specs.Prelude.{is_some}
 use Rattle.c_lexer.specs.declared.token.Token.{Token}
-use Rattle.c_syntax.specs.Parser.{Outcome, Found, Stopped, Why, Parser, and_then, pure, next_body, many}
-use Rattle.c_syntax.specs.ReadBody.{external_at, externals}
+use Rattle.c_reading.specs.Parser.{Outcome, Found, Stopped, Why, Parser, and_then, pure, next_body, many}
+use Rattle.c_reading.specs.ReadBody.{external_at, externals}
 use Rattle.c_syntax.specs.Scopes.{Scope, predeclared}
 use Rattle.c_syntax.specs.ScopesUnit.{external_adds}
 use Rattle.c_syntax.specs.TreeUnit.{External}
-use Rattle.c_syntax.proofs.Again.{then_read}
+use Rattle.c_reading.proofs.Full.Steps.{then_read}
 
 behind : {A B : Type 0} (g : Outcome A) (f : A → Parser B) (why : Why) (rest : List Token) → g ≡ Stopped why rest → and_then g f ≡ Stopped why rest
 behind g f why rest e = ap (λ g. and_then g f) e

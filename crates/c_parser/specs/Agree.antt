@@ -9,7 +9,7 @@ use Rattle.c_parser.specs.declared.fault.Fault.TheVariants as fault
 use Rattle.c_parser.specs.declared.fault.SyntaxFault.{SyntaxFault}
 use Rattle.c_parser.specs.declared.fault.SyntaxFault.TheVariants as syntax
 use Rattle.c_syntax.specs.Parsing.{RefusedAt}
-use Rattle.c_syntax.specs.Parser.{Outcome, Found, Stopped, Unfit, TooDeep}
+use Rattle.c_reading.specs.Parser.{Outcome, Found, Stopped, Unfit, TooDeep}
 
 abbrev pub Refuses : {Y : Type 0} → Outcome Y → Fault → Type 0
 Refuses got (fault.Unfit rest) = got ≡ Stopped Unfit rest.now

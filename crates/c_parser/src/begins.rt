@@ -3,9 +3,9 @@
 ghost use Rattle.std.specs.Prelude.{◌≡◌, Some};
 ghost use Rattle.c_lexer.specs.declared.token.Body.{Body};
 ghost use Rattle.c_syntax.specs.First as first;
-ghost use Rattle.c_syntax.specs.ReadExpr as expressions;
-ghost use Rattle.c_syntax.specs.Parser.{next_body};
-ghost use Rattle.c_syntax.specs.ReadToken as spec;
+ghost use Rattle.c_reading.specs.ReadExpr as expressions;
+ghost use Rattle.c_reading.specs.Parser.{next_body};
+ghost use Rattle.c_reading.specs.ReadToken as spec;
 
 use crate::scope::Scope;
 use c_lexer::{Body, Punct, Token, Word};

@@ -1,6 +1,8 @@
+//! The next token, and what it is.
+
 ghost use Rattle.std.specs.Prelude.{◌≡◌, option_copied};
-ghost use Rattle.c_syntax.specs.Parser as parser;
-ghost use Rattle.c_syntax.specs.ReadToken as spec;
+ghost use Rattle.c_reading.specs.Parser as parser;
+ghost use Rattle.c_reading.specs.ReadToken as spec;
 ghost use Rattle.c_parser.specs.Agree.{GivesRest};
 
 use crate::fault::Fault;

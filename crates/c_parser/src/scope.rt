@@ -1,3 +1,5 @@
+//! The names in scope (6.2.1): a map to what each is, and a list of what each declaration hid.
+
 ghost use Rattle.std.specs.Prelude.{◌≡◌, ◌++◌, ◌∷◌, ◌≤◌, ◌-◌, [], length, map, take, true, IfOk};
 ghost use Rattle.c_syntax.specs.Scopes as spec;
 

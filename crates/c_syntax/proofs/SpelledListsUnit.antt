@@ -16,7 +16,7 @@ use Rattle.c_syntax.specs.declared.unit.Function as u
 use Rattle.c_syntax.specs.Tokens.{commas, comma_if, mark, mark_at, word_at}
 use Rattle.c_syntax.specs.Spelling.{spell_specifier, spell_declarator}
 use Rattle.c_syntax.specs.SpellingUnit.{spell_initializer, spell_item, spelled_items, spell_init_declarator, spell_declaration, spell_controlling, spell_statement, spell_block_item, spell_block_items, spell_switch_item, spell_switch_items, spell_function}
-use Rattle.c_syntax.specs.ReadBody.{items}
+use Rattle.c_syntax.specs.ViewUnit.{items}
 use Rattle.c_syntax.specs.TreeUnit.{Braces, MoreItems}
 use Rattle.c_syntax.specs.View.{expr_of, specifier_of, declarator_of}
 use Rattle.c_syntax.specs.ViewUnit.{initializer_of, item_of, items_row, init_declarator_of, declaration_of, statement_of, block_item_of, block_row, block_items, switch_item_of, switch_row, function_of}

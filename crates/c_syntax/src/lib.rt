@@ -2,11 +2,9 @@
 //! tree or the one refused place of each list of tokens. The parsers of specs/ tell what a list of tokens begins with.
 #![tactic(auto)]
 
-pub mod type_seen;
 pub mod declaration;
 pub mod declarator;
 pub mod expression;
-pub mod declarator_form;
 pub mod initializer;
 pub mod law;
 pub mod operator;
@@ -20,15 +18,11 @@ pub mod type_name;
 pub mod unit;
 mod words;
 
-pub use type_seen::TypeSeen;
 pub use declaration::{Assert, Declaration, InitDeclarator};
 pub use declarator::{Declarator, Parameter};
 pub use expression::{Constant, Expr, Literals};
-pub use declarator_form::DeclaratorForm;
 pub use initializer::{Initializer, Item};
-pub use law::{
-    answer_law, first_token_law, height_law, one_tree_law, round_trip_law, spelling_law,
-};
+pub use law::{first_token_law, height_law, round_trip_law, spelling_law};
 pub use operator::{Access, Arithmetic, Comparison, Infix, Measure, Postfix, Prefix};
 pub use specifier::{
     BasicWord, CompoundWord, Enumerator, MemberDeclaration, Qualifier, Specifier, Storage, Tag,

@@ -1,3 +1,5 @@
+//! The printer's tokens, one at a time.
+
 ghost use Rattle.std.specs.Prelude.{◌≡◌, ◌++◌, ◌∷◌, [], IfOk};
 ghost use Rattle.c_syntax.specs.Operators as operators;
 ghost use Rattle.c_syntax.specs.Spelling as spelling;

@@ -1,3 +1,5 @@
+//! The printer of expressions, type names, specifiers and declarators.
+
 ghost use Rattle.std.specs.Prelude.{◌≡◌, ◌++◌, ◌∷◌, [], map, IfOk};
 ghost use Rattle.std.specs.List.{flat_map};
 ghost use Rattle.c_syntax.specs.Spelling as spec;

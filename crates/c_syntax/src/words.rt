@@ -1,3 +1,5 @@
+//! The words and marks that spell operators and specifiers (6.4.1, 6.4.6).
+
 ghost use Rattle.std.specs.Prelude.{◌≡◌};
 ghost use Rattle.c_syntax.specs.Operators as spec;
 

@@ -1,4 +1,4 @@
-// Units and what they are answered with.
+//! Units and what they are answered with.
 mod declarations;
 mod expressions;
 mod limits;

@@ -2,8 +2,8 @@
 
 ghost use Rattle.std.specs.Prelude.{◌≡◌, ◌^◌, ◌<◌, ◌≤◌, ◌++◌, length, take, map, IfOk};
 ghost use Rattle.c_parser.specs.Agree.{Gives};
-ghost use Rattle.c_syntax.specs.Parser.{next_body};
-ghost use Rattle.c_syntax.specs.ReadBody as spec;
+ghost use Rattle.c_reading.specs.Parser.{next_body};
+ghost use Rattle.c_reading.specs.ReadBody as spec;
 ghost use Rattle.c_syntax.specs.Scopes as names;
 ghost use Rattle.c_syntax.specs.ScopesUnit.{block_item_adds, switch_item_adds};
 ghost use Rattle.c_syntax.specs.ViewUnit.{block_item_of, switch_item_of};
@@ -70,7 +70,7 @@ fn block_item<'a>(
 
 /// An item of a block whose parts are of a height at most (6.8.2).
 #[cycle(executing)]
-#[tactic(auto, unfolding(c_syntax::specs::ReadBody::block_item_at))]
+#[tactic(auto, unfolding(c_reading::specs::ReadBody::block_item_at))]
 fn block_item_at<'a>(
     alloc: Global,
     scope: &mut Scope,
@@ -119,7 +119,7 @@ fn switch_item<'a>(
 
 /// A label, or an item of a block, in the block of a `switch` (6.8.1, 6.8.4.2).
 #[cycle(executing)]
-#[tactic(auto, unfolding(c_syntax::specs::ReadBody::switch_item_at))]
+#[tactic(auto, unfolding(c_reading::specs::ReadBody::switch_item_at))]
 fn switch_item_at<'a>(
     alloc: Global,
     scope: &mut Scope,
@@ -148,7 +148,7 @@ fn switch_item_at<'a>(
 }
 
 /// What is left of a label of a `switch` behind its word `case` (6.8.1).
-#[tactic(auto, unfolding(c_syntax::specs::ReadBody::case_on))]
+#[tactic(auto, unfolding(c_reading::specs::ReadBody::case_on))]
 fn case_on<'a>(
     alloc: Global,
     scope: &mut Scope,

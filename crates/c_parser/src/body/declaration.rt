@@ -3,9 +3,9 @@
 ghost use Rattle.std.specs.Prelude.{◌≡◌, ◌^◌, ◌<◌, ◌++◌, map, IfOk};
 ghost use Rattle.c_lexer.specs.declared.punct.Punct.TheVariants as p;
 ghost use Rattle.c_parser.specs.Agree.{Gives};
-ghost use Rattle.c_syntax.specs.ReadBody as spec;
-ghost use Rattle.c_syntax.specs.Parser.{next_body};
-ghost use Rattle.c_syntax.specs.ReadToken as token;
+ghost use Rattle.c_reading.specs.ReadBody as spec;
+ghost use Rattle.c_reading.specs.Parser.{next_body};
+ghost use Rattle.c_reading.specs.ReadToken as token;
 ghost use Rattle.c_syntax.specs.Scopes as names;
 ghost use Rattle.c_syntax.specs.Scopes.{declarator_adds};
 ghost use Rattle.c_syntax.specs.ScopesUnit.{declaration_adds, init_declarators_add};
@@ -23,12 +23,12 @@ use crate::scope::Scope;
 use c_lexer::{Punct, Token};
 use c_syntax::declaration::{Declaration, InitDeclarator};
 use c_syntax::declarator::Declarator;
-use c_syntax::declarator_form::DeclaratorForm;
+use c_reading::declarator_form::DeclaratorForm;
 use c_syntax::specifier::Specifier;
 use std::alloc::Global;
 
 /// A declaration whose parts are of a height at most.
-#[tactic(auto, unfolding(c_syntax::specs::ReadBody::declaration_at, c_syntax::specs::ReadBody::declaration_on))]
+#[tactic(auto, unfolding(c_reading::specs::ReadBody::declaration_at, c_reading::specs::ReadBody::declaration_on))]
 pub(crate) fn declaration_at<'a>(
     alloc: Global,
     scope: &mut Scope,
@@ -70,7 +70,7 @@ fn declaration_on<'a>(
 }
 
 /// What is left of a declaration behind its specifiers and its first declarator.
-#[tactic(auto, unfolding(c_syntax::specs::ReadBody::declared_on, c_syntax::specs::ReadBody::init_on))]
+#[tactic(auto, unfolding(c_reading::specs::ReadBody::declared_on, c_reading::specs::ReadBody::init_on))]
 pub(crate) fn declared_on<'a>(
     alloc: Global,
     scope: &mut Scope,
@@ -138,7 +138,7 @@ fn all_declarators<'a>(
 }
 
 /// A declarator with its initializer.
-#[tactic(auto, unfolding(c_syntax::specs::ReadBody::init_declarator, c_syntax::specs::ReadBody::init_on))]
+#[tactic(auto, unfolding(c_reading::specs::ReadBody::init_declarator, c_reading::specs::ReadBody::init_on))]
 fn init_declarator<'a>(
     alloc: Global,
     scope: &mut Scope,

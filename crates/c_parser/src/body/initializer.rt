@@ -2,8 +2,8 @@
 
 ghost use Rattle.std.specs.Prelude.{◌≡◌, ◌+◌, ◌^◌, ◌<◌, ◌++◌, map, IfOk};
 ghost use Rattle.c_parser.specs.Agree.{Gives};
-ghost use Rattle.c_syntax.specs.ReadBody as spec;
-ghost use Rattle.c_syntax.specs.Parser.{next_body};
+ghost use Rattle.c_reading.specs.ReadBody as spec;
+ghost use Rattle.c_reading.specs.Parser.{next_body};
 ghost use Rattle.c_syntax.specs.ScopesUnit.{initializer_adds, item_adds, items_add};
 ghost use Rattle.c_syntax.specs.ViewUnit.{initializer_of, item_of};
 
@@ -58,7 +58,7 @@ pub(crate) fn initializer<'a>(
 
 /// An expression, or a list in braces (6.7.9).
 #[cycle(initializing)]
-#[tactic(auto, unfolding(c_syntax::specs::ReadBody::initializer_at))]
+#[tactic(auto, unfolding(c_reading::specs::ReadBody::initializer_at))]
 fn initializer_at<'a>(
     alloc: Global,
     scope: &mut Scope,
@@ -82,7 +82,7 @@ fn initializer_at<'a>(
 
 /// What stands behind an opening brace at this place, and past the closing one.
 #[cycle(initializing)]
-#[tactic(auto, unfolding(c_syntax::specs::ReadBody::braces))]
+#[tactic(auto, unfolding(c_reading::specs::ReadBody::braces))]
 fn braces<'a>(
     alloc: Global,
     scope: &mut Scope,
@@ -159,7 +159,7 @@ fn item<'a>(
 
 /// An initializer in braces, with its designator (6.7.9).
 #[cycle(initializing)]
-#[tactic(auto, unfolding(c_syntax::specs::ReadBody::item_at))]
+#[tactic(auto, unfolding(c_reading::specs::ReadBody::item_at))]
 fn item_at<'a>(
     alloc: Global,
     scope: &mut Scope,
@@ -189,7 +189,7 @@ fn item_at<'a>(
 
 /// What stands behind the dot of a designator at this place.
 #[cycle(initializing)]
-#[tactic(auto, unfolding(c_syntax::specs::ReadBody::member_item))]
+#[tactic(auto, unfolding(c_reading::specs::ReadBody::member_item))]
 fn member_item<'a>(
     alloc: Global,
     scope: &mut Scope,
@@ -220,7 +220,7 @@ fn member_item<'a>(
 
 /// What stands behind the bracket of a designator at this place.
 #[cycle(initializing)]
-#[tactic(auto, unfolding(c_syntax::specs::ReadBody::index_item))]
+#[tactic(auto, unfolding(c_reading::specs::ReadBody::index_item))]
 fn index_item<'a>(
     alloc: Global,
     scope: &mut Scope,

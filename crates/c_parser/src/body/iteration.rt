@@ -2,7 +2,7 @@
 
 ghost use Rattle.std.specs.Prelude.{◌≡◌, ◌^◌, ◌<◌, ◌++◌, [], IfOk};
 ghost use Rattle.c_parser.specs.Agree.{Gives};
-ghost use Rattle.c_syntax.specs.ReadBody as spec;
+ghost use Rattle.c_reading.specs.ReadBody as spec;
 ghost use Rattle.c_syntax.specs.ScopesUnit.{declaration_adds, for_init_adds, statement_adds};
 ghost use Rattle.c_syntax.specs.ViewUnit.{declaration_of, for_init_of, statement_of};
 
@@ -22,7 +22,7 @@ use std::alloc::Global;
 
 /// What is left of a `while` statement (6.8.5.1) behind its word.
 #[cycle(executing)]
-#[tactic(auto, unfolding(c_syntax::specs::ReadBody::while_on))]
+#[tactic(auto, unfolding(c_reading::specs::ReadBody::while_on))]
 pub(crate) fn while_on<'a>(
     alloc: Global,
     scope: &mut Scope,
@@ -44,7 +44,7 @@ pub(crate) fn while_on<'a>(
 
 /// What is left of a `do` statement (6.8.5.2) behind its word.
 #[cycle(executing)]
-#[tactic(auto, unfolding(c_syntax::specs::ReadBody::do_on))]
+#[tactic(auto, unfolding(c_reading::specs::ReadBody::do_on))]
 pub(crate) fn do_on<'a>(
     alloc: Global,
     scope: &mut Scope,
@@ -71,7 +71,7 @@ pub(crate) fn do_on<'a>(
 
 /// What is left of a `for` statement (6.8.5.3) behind its word.
 #[cycle(executing)]
-#[tactic(auto, unfolding(c_syntax::specs::ReadBody::for_on))]
+#[tactic(auto, unfolding(c_reading::specs::ReadBody::for_on))]
 pub(crate) fn for_on<'a>(
     alloc: Global,
     scope: &mut Scope,
@@ -116,7 +116,7 @@ fn for_begun<'a>(
 }
 
 /// How a `for` statement begins, past the first semicolon.
-#[tactic(auto, unfolding(c_syntax::specs::ReadBody::for_init))]
+#[tactic(auto, unfolding(c_reading::specs::ReadBody::for_init))]
 fn for_init<'a>(
     alloc: Global,
     scope: &mut Scope,

@@ -2,7 +2,7 @@
 
 ghost use Rattle.std.specs.Prelude.{◌≡◌, ◌^◌, ◌<◌, ◌++◌, map, IfOk};
 ghost use Rattle.c_parser.specs.Agree.{Gives};
-ghost use Rattle.c_syntax.specs.ReadBody as spec;
+ghost use Rattle.c_reading.specs.ReadBody as spec;
 ghost use Rattle.c_syntax.specs.ScopesUnit.{statement_adds};
 ghost use Rattle.c_syntax.specs.ViewUnit.{statement_of, switch_item_of};
 
@@ -20,7 +20,7 @@ use std::alloc::Global;
 
 /// What is left of an `if` statement (6.8.4.1) behind its word.
 #[cycle(executing)]
-#[tactic(auto, unfolding(c_syntax::specs::ReadBody::if_on))]
+#[tactic(auto, unfolding(c_reading::specs::ReadBody::if_on))]
 pub(crate) fn if_on<'a>(
     alloc: Global,
     scope: &mut Scope,
@@ -50,7 +50,7 @@ pub(crate) fn if_on<'a>(
 
 /// What is left of a `switch` statement (6.8.4.2) behind its word.
 #[cycle(executing)]
-#[tactic(auto, unfolding(c_syntax::specs::ReadBody::switch_on))]
+#[tactic(auto, unfolding(c_reading::specs::ReadBody::switch_on))]
 pub(crate) fn switch_on<'a>(
     alloc: Global,
     scope: &mut Scope,
@@ -73,7 +73,7 @@ pub(crate) fn switch_on<'a>(
 
 /// The items of the block of a `switch` behind its opening brace, and past its closing brace.
 #[cycle(executing)]
-#[tactic(auto, unfolding(c_syntax::specs::ReadBody::switch_with))]
+#[tactic(auto, unfolding(c_reading::specs::ReadBody::switch_with))]
 fn switch_block<'a>(
     alloc: Global,
     scope: &mut Scope,

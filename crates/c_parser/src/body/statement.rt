@@ -2,8 +2,8 @@
 
 ghost use Rattle.std.specs.Prelude.{◌≡◌, ◌^◌, ◌<◌, ◌++◌, [], map, IfOk};
 ghost use Rattle.c_parser.specs.Agree.{Gives};
-ghost use Rattle.c_syntax.specs.Parser.{next_body};
-ghost use Rattle.c_syntax.specs.ReadBody as spec;
+ghost use Rattle.c_reading.specs.Parser.{next_body};
+ghost use Rattle.c_reading.specs.ReadBody as spec;
 ghost use Rattle.c_syntax.specs.ScopesUnit.{statement_adds};
 ghost use Rattle.c_syntax.specs.TreeUnit as tree;
 ghost use Rattle.c_syntax.specs.ViewUnit.{statement_of, block_item_of, block_items};
@@ -80,7 +80,7 @@ pub(crate) fn statement<'a>(
 
 /// A statement whose parts are of a height at most.
 #[cycle(executing)]
-#[tactic(auto, unfolding(c_syntax::specs::ReadBody::statement_at))]
+#[tactic(auto, unfolding(c_reading::specs::ReadBody::statement_at))]
 pub(crate) fn statement_at<'a>(
     alloc: Global,
     scope: &mut Scope,
@@ -131,7 +131,7 @@ fn compound<'a>(
 
 /// The items of a block behind its opening brace, of a height at most, and past its closing brace.
 #[cycle(executing)]
-#[tactic(auto, unfolding(c_syntax::specs::ReadBody::block_with))]
+#[tactic(auto, unfolding(c_reading::specs::ReadBody::block_with))]
 pub(crate) fn block<'a>(
     alloc: Global,
     scope: &mut Scope,

@@ -2,9 +2,9 @@
 
 ghost use Rattle.std.specs.Prelude.{◌≡◌, ◌^◌, ◌<◌, ◌++◌, map, IfOk, is_some};
 ghost use Rattle.c_parser.specs.Agree.{Gives};
-ghost use Rattle.c_syntax.specs.ReadBody as spec;
-ghost use Rattle.c_syntax.specs.Parser.{next_body};
-ghost use Rattle.c_syntax.specs.ReadToken as next;
+ghost use Rattle.c_reading.specs.ReadBody as spec;
+ghost use Rattle.c_reading.specs.Parser.{next_body};
+ghost use Rattle.c_reading.specs.ReadToken as next;
 ghost use Rattle.c_syntax.specs.Scopes as names;
 ghost use Rattle.c_syntax.specs.Scopes.{specifiers_add, declarator_adds};
 ghost use Rattle.c_syntax.specs.ScopesUnit.{own_parameters, external_adds};
@@ -25,7 +25,7 @@ use crate::scope::Scope;
 use c_lexer::{Punct, Token, Word};
 use c_syntax::declaration::Declaration;
 use c_syntax::declarator::Declarator;
-use c_syntax::declarator_form::DeclaratorForm;
+use c_reading::declarator_form::DeclaratorForm;
 use c_syntax::specifier::Specifier;
 use c_syntax::statement::BlockItem;
 use c_syntax::unit::External;
@@ -91,7 +91,7 @@ fn function<'a>(
 }
 
 /// What is left of an external declaration behind its specifiers and its first declarator.
-#[tactic(auto, unfolding(c_syntax::specs::ReadBody::external_on))]
+#[tactic(auto, unfolding(c_reading::specs::ReadBody::external_on))]
 fn external_on<'a>(
     alloc: Global,
     scope: &mut Scope,
@@ -137,7 +137,7 @@ fn external_by<'a>(
 }
 
 /// An external declaration whose parts are of a height at most.
-#[tactic(auto, unfolding(c_syntax::specs::ReadBody::external_at))]
+#[tactic(auto, unfolding(c_reading::specs::ReadBody::external_at))]
 fn external_at<'a>(
     alloc: Global,
     scope: &mut Scope,

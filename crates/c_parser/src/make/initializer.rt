@@ -1,7 +1,7 @@
 //! Initializers of their parts.
 
 ghost use Rattle.std.specs.Prelude.{◌≡◌, map, IfOk};
-ghost use Rattle.c_syntax.specs.ReadBody.{items};
+ghost use Rattle.c_syntax.specs.ViewUnit.{items};
 ghost use Rattle.c_syntax.specs.TreeUnit as tree;
 ghost use Rattle.c_syntax.specs.View.{expr_of};
 ghost use Rattle.c_syntax.specs.ViewUnit.{initializer_of, item_of};

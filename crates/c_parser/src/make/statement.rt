@@ -2,7 +2,7 @@
 
 ghost use Rattle.std.specs.Prelude.{◌≡◌, map, IfOk};
 ghost use Rattle.std.specs.Option.{option_map};
-ghost use Rattle.c_syntax.specs.ReadBody.{switch_items};
+ghost use Rattle.c_syntax.specs.ViewUnit.{switch_items};
 ghost use Rattle.c_syntax.specs.TreeUnit as tree;
 ghost use Rattle.c_syntax.specs.View.{expr_of};
 ghost use Rattle.c_syntax.specs.ViewUnit.{statement_of, block_item_of, block_items, switch_item_of, for_init_of};

@@ -3,8 +3,8 @@
 ghost use Rattle.std.specs.Prelude.{◌≡◌, map, ◌+◌, ◌^◌, ◌≤◌, ◌<◌, ◌++◌, IfOk};
 ghost use Rattle.c_parser.specs.Agree.{Gives};
 ghost use Rattle.c_syntax.specs.Height.{specifier_height, members_height};
-ghost use Rattle.c_syntax.specs.ReadSpecifier as spec;
-ghost use Rattle.c_syntax.specs.ReadSpecifier.{parsers};
+ghost use Rattle.c_reading.specs.ReadSpecifier as spec;
+ghost use Rattle.c_reading.specs.ReadSpecifier.{parsers};
 ghost use Rattle.c_syntax.specs.Scopes.{specifier_adds, members_add};
 ghost use Rattle.c_syntax.specs.View.{specifier_of, member_of, members};
 
@@ -22,7 +22,7 @@ use std::alloc::Global;
 
 /// What stands behind `struct` or `union`, whose place this is.
 #[cycle(reading)]
-#[tactic(auto, unfolding(c_syntax::specs::ReadSpecifier::compound))]
+#[tactic(auto, unfolding(c_reading::specs::ReadSpecifier::compound))]
 pub(crate) fn compound<'a>(
     alloc: Global,
     scope: &mut Scope,
@@ -66,7 +66,7 @@ pub(crate) fn compound<'a>(
 
 /// A tag was read.
 #[cycle(reading)]
-#[tactic(auto, unfolding(c_syntax::specs::ReadSpecifier::compound_tag))]
+#[tactic(auto, unfolding(c_reading::specs::ReadSpecifier::compound_tag))]
 fn compound_tag<'a>(
     alloc: Global,
     scope: &mut Scope,

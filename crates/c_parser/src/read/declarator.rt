@@ -3,9 +3,9 @@
 ghost use Rattle.std.specs.Prelude.{◌≡◌, ◌+◌, ◌^◌, ◌≤◌, ◌<◌, ◌++◌, IfOk};
 ghost use Rattle.c_parser.specs.Agree.{Gives};
 ghost use Rattle.c_syntax.specs.Height.{declarator_height};
-ghost use Rattle.c_syntax.specs.Parser.{next_body, skip};
-ghost use Rattle.c_syntax.specs.ReadDeclarator as spec;
-ghost use Rattle.c_syntax.specs.ReadSpecifier.{parsers};
+ghost use Rattle.c_reading.specs.Parser.{next_body, skip};
+ghost use Rattle.c_reading.specs.ReadDeclarator as spec;
+ghost use Rattle.c_reading.specs.ReadSpecifier.{parsers};
 ghost use Rattle.c_syntax.specs.Scopes.{declarator_adds};
 ghost use Rattle.c_syntax.specs.Tree.{Omitted};
 ghost use Rattle.c_syntax.specs.View.{declarator_of};
@@ -22,7 +22,7 @@ use crate::read::suffix::{suffix_on, suffixes};
 use crate::scope::Scope;
 use c_lexer::{Body, Punct, Token};
 use c_syntax::declarator::Declarator;
-use c_syntax::declarator_form::DeclaratorForm;
+use c_reading::declarator_form::DeclaratorForm;
 use critical_table::{Name, Pos};
 use std::alloc::Global;
 
@@ -75,7 +75,7 @@ fn omission<'a>(
 }
 
 /// A declarator where no height is left.
-#[tactic(auto, unfolding(c_syntax::specs::ReadDeclarator::no_declarator))]
+#[tactic(auto, unfolding(c_reading::specs::ReadDeclarator::no_declarator))]
 pub(crate) fn no_declarator<'a>(
     alloc: Global,
     form: DeclaratorForm,
@@ -92,7 +92,7 @@ pub(crate) fn no_declarator<'a>(
 
 /// A declarator of the form, by its next token.
 #[cycle(reading)]
-#[tactic(auto, unfolding(c_syntax::specs::ReadDeclarator::declarator_at))]
+#[tactic(auto, unfolding(c_reading::specs::ReadDeclarator::declarator_at))]
 pub(crate) fn declarator_at<'a>(
     alloc: Global,
     scope: &mut Scope,
@@ -166,7 +166,7 @@ fn star_declarator<'a>(
 
 /// A pointer, behind its asterisk (6.7.6.1).
 #[cycle(reading)]
-#[tactic(auto, unfolding(c_syntax::specs::ReadDeclarator::pointer))]
+#[tactic(auto, unfolding(c_reading::specs::ReadDeclarator::pointer))]
 fn pointer<'a>(
     alloc: Global,
     scope: &mut Scope,
@@ -212,7 +212,7 @@ fn paren_declarator<'a>(
 
 /// Behind an opening parenthesis, where the identifier may be omitted.
 #[cycle(reading)]
-#[tactic(auto, unfolding(c_syntax::specs::ReadDeclarator::behind_paren))]
+#[tactic(auto, unfolding(c_reading::specs::ReadDeclarator::behind_paren))]
 fn behind_paren<'a>(
     alloc: Global,
     scope: &mut Scope,
@@ -247,7 +247,7 @@ fn behind_paren<'a>(
 
 /// A parameter list of an omitted identifier, behind its opening parenthesis.
 #[cycle(reading)]
-#[tactic(auto, unfolding(c_syntax::specs::ReadDeclarator::omitted_list))]
+#[tactic(auto, unfolding(c_reading::specs::ReadDeclarator::omitted_list))]
 fn omitted_list<'a>(
     alloc: Global,
     scope: &mut Scope,
@@ -271,7 +271,7 @@ fn omitted_list<'a>(
 
 /// A declarator in parentheses, behind the opening one.
 #[cycle(reading)]
-#[tactic(auto, unfolding(c_syntax::specs::ReadDeclarator::nested_declarator))]
+#[tactic(auto, unfolding(c_reading::specs::ReadDeclarator::nested_declarator))]
 fn nested_declarator<'a>(
     alloc: Global,
     scope: &mut Scope,

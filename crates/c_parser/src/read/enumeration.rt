@@ -3,8 +3,8 @@
 ghost use Rattle.std.specs.Prelude.{◌≡◌, map, ◌+◌, ◌^◌, ◌≤◌, ◌<◌, ◌++◌, IfOk};
 ghost use Rattle.c_parser.specs.Agree.{Gives};
 ghost use Rattle.c_syntax.specs.Height.{specifier_height, enumerator_height, enumerators_height};
-ghost use Rattle.c_syntax.specs.ReadSpecifier as spec;
-ghost use Rattle.c_syntax.specs.ReadSpecifier.{parsers};
+ghost use Rattle.c_reading.specs.ReadSpecifier as spec;
+ghost use Rattle.c_reading.specs.ReadSpecifier.{parsers};
 ghost use Rattle.c_syntax.specs.Scopes.{specifier_adds, enumerator_adds, enumerators_add};
 ghost use Rattle.c_syntax.specs.View.{specifier_of, enumerator_of, enumerators};
 
@@ -22,7 +22,7 @@ use std::alloc::Global;
 
 /// What stands behind `enum`, whose place this is.
 #[cycle(reading)]
-#[tactic(auto, unfolding(c_syntax::specs::ReadSpecifier::enumeration))]
+#[tactic(auto, unfolding(c_reading::specs::ReadSpecifier::enumeration))]
 pub(crate) fn enumeration<'a>(
     alloc: Global,
     scope: &mut Scope,
@@ -60,7 +60,7 @@ pub(crate) fn enumeration<'a>(
 
 /// A tag was read.
 #[cycle(reading)]
-#[tactic(auto, unfolding(c_syntax::specs::ReadSpecifier::enum_tag))]
+#[tactic(auto, unfolding(c_reading::specs::ReadSpecifier::enum_tag))]
 fn enum_tag<'a>(
     alloc: Global,
     scope: &mut Scope,
@@ -82,7 +82,7 @@ fn enum_tag<'a>(
 
 /// What stands behind the opening brace.
 #[cycle(reading)]
-#[tactic(auto, unfolding(c_syntax::specs::ReadSpecifier::enum_body))]
+#[tactic(auto, unfolding(c_reading::specs::ReadSpecifier::enum_body))]
 fn enum_body<'a>(
     alloc: Global,
     scope: &mut Scope,
@@ -131,7 +131,7 @@ fn listed_enumerators<'a>(
 
 /// An enumerator (6.7.2.2).
 #[cycle(reading)]
-#[tactic(auto, unfolding(c_syntax::specs::ReadSpecifier::enumerator))]
+#[tactic(auto, unfolding(c_reading::specs::ReadSpecifier::enumerator))]
 fn enumerator<'a>(
     alloc: Global,
     scope: &mut Scope,
@@ -158,7 +158,7 @@ fn enumerator<'a>(
 
 /// An enumerator whose name was read. It is in scope behind its value (6.2.1p7).
 #[cycle(reading)]
-#[tactic(auto, unfolding(c_syntax::specs::ReadSpecifier::enumerator_on))]
+#[tactic(auto, unfolding(c_reading::specs::ReadSpecifier::enumerator_on))]
 fn enumerator_on<'a>(
     alloc: Global,
     scope: &mut Scope,

@@ -1,7 +1,9 @@
+//! The functions of each class of nodes, by the height that is left.
+
 ghost use Rattle.std.specs.Prelude.{◌≡◌, ◌^◌, ◌≤◌, ◌<◌, ◌++◌, IfOk};
 ghost use Rattle.c_parser.specs.Agree.{Gives};
 ghost use Rattle.c_syntax.specs.Height.{height, type_name_height, declarator_height, parameter_height, member_height};
-ghost use Rattle.c_syntax.specs.ReadSpecifier.{parsers};
+ghost use Rattle.c_reading.specs.ReadSpecifier.{parsers};
 ghost use Rattle.c_syntax.specs.Scopes.{expr_adds, type_name_adds, declarator_adds, parameter_adds, member_adds};
 ghost use Rattle.c_syntax.specs.View.{expr_of, type_name_of, declarator_of, parameter_of, member_of};
 
@@ -17,7 +19,7 @@ use crate::scope::Scope;
 use c_lexer::Token;
 use c_syntax::declarator::{Declarator, Parameter};
 use c_syntax::expression::Expr;
-use c_syntax::declarator_form::DeclaratorForm;
+use c_reading::declarator_form::DeclaratorForm;
 use c_syntax::specifier::{MemberDeclaration, Specifier};
 use c_syntax::type_name::TypeName;
 use std::alloc::{AllocError, Global};

@@ -4,10 +4,10 @@ ghost use Rattle.std.specs.Prelude.{◌≡◌, ◌+◌, ◌^◌, ◌≤◌, ◌<
 ghost use Rattle.c_lexer.specs.declared.token.Body.TheVariants as bodies;
 ghost use Rattle.c_parser.specs.Agree.{Gives};
 ghost use Rattle.c_syntax.specs.Height.{height};
-ghost use Rattle.c_syntax.specs.Parser as parser;
-ghost use Rattle.c_syntax.specs.ReadExpr as spec;
-ghost use Rattle.c_syntax.specs.ReadToken as next_token;
-ghost use Rattle.c_syntax.specs.ReadSpecifier.{parsers};
+ghost use Rattle.c_reading.specs.Parser as parser;
+ghost use Rattle.c_reading.specs.ReadExpr as spec;
+ghost use Rattle.c_reading.specs.ReadToken as next_token;
+ghost use Rattle.c_reading.specs.ReadSpecifier.{parsers};
 ghost use Rattle.c_syntax.specs.Scopes as names;
 ghost use Rattle.c_syntax.specs.Scopes.{expr_adds};
 ghost use Rattle.c_syntax.specs.View.{expr_of};
@@ -100,7 +100,7 @@ fn goes_infix(level: u8, left: &Part<Expr>, tokens: &[Token]) -> bool
 
 /// An expression of a level.
 #[cycle(reading)]
-#[tactic(auto, unfolding(c_syntax::specs::ReadExpr::expr_at))]
+#[tactic(auto, unfolding(c_reading::specs::ReadExpr::expr_at))]
 pub(crate) fn expr_at<'a>(
     alloc: Global,
     scope: &mut Scope,
@@ -148,7 +148,7 @@ fn infixes<'a>(
 
 /// The operator that follows, and its other operands.
 #[cycle(reading)]
-#[tactic(auto, unfolding(c_syntax::specs::ReadExpr::infix_on, c_syntax::specs::ReadExpr::between_on))]
+#[tactic(auto, unfolding(c_reading::specs::ReadExpr::infix_on, c_reading::specs::ReadExpr::between_on))]
 fn infix_on<'a>(
     alloc: Global,
     scope: &mut Scope,
@@ -194,7 +194,7 @@ fn between_on<'a>(
 
 /// The second and third operand of the conditional operator (6.5.15).
 #[cycle(reading)]
-#[tactic(auto, unfolding(c_syntax::specs::ReadExpr::cond_on))]
+#[tactic(auto, unfolding(c_reading::specs::ReadExpr::cond_on))]
 fn cond_on<'a>(
     alloc: Global,
     scope: &mut Scope,

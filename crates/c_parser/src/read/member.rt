@@ -3,8 +3,8 @@
 ghost use Rattle.std.specs.Prelude.{◌≡◌, false, map, ◌+◌, ◌^◌, ◌≤◌, ◌<◌, ◌++◌, IfOk};
 ghost use Rattle.c_parser.specs.Agree.{Gives};
 ghost use Rattle.c_syntax.specs.Height.{specifiers_height, declarators_height, member_height};
-ghost use Rattle.c_syntax.specs.ReadDeclarator as spec;
-ghost use Rattle.c_syntax.specs.ReadSpecifier.{parsers};
+ghost use Rattle.c_reading.specs.ReadDeclarator as spec;
+ghost use Rattle.c_reading.specs.ReadSpecifier.{parsers};
 ghost use Rattle.c_syntax.specs.Scopes as names;
 ghost use Rattle.c_syntax.specs.Scopes.{specifiers_add, declarators_add, member_adds};
 ghost use Rattle.c_syntax.specs.View.{specifiers_of, declarator_of, declarators, member_of};
@@ -18,13 +18,13 @@ use crate::read::specifier::specifiers;
 use crate::scope::Scope;
 use c_lexer::{Body, Punct, Token};
 use c_syntax::declarator::Declarator;
-use c_syntax::declarator_form::DeclaratorForm;
+use c_reading::declarator_form::DeclaratorForm;
 use c_syntax::specifier::{MemberDeclaration, Specifier};
 use std::alloc::Global;
 
 /// A member declaration (6.7.2.1).
 #[cycle(reading)]
-#[tactic(auto, unfolding(c_syntax::specs::ReadDeclarator::member_at))]
+#[tactic(auto, unfolding(c_reading::specs::ReadDeclarator::member_at))]
 pub(crate) fn member_at<'a>(
     alloc: Global,
     scope: &mut Scope,
@@ -42,7 +42,7 @@ pub(crate) fn member_at<'a>(
 
 /// What is left of a member declaration behind its specifiers.
 #[cycle(reading)]
-#[tactic(auto, unfolding(c_syntax::specs::ReadDeclarator::member_on))]
+#[tactic(auto, unfolding(c_reading::specs::ReadDeclarator::member_on))]
 fn member_on<'a>(
     alloc: Global,
     scope: &mut Scope,

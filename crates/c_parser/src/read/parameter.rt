@@ -3,8 +3,8 @@
 ghost use Rattle.std.specs.Prelude.{◌≡◌, ◌+◌, ◌^◌, ◌≤◌, ◌<◌, ◌++◌, IfOk};
 ghost use Rattle.c_parser.specs.Agree.{Gives};
 ghost use Rattle.c_syntax.specs.Height.{parameter_height};
-ghost use Rattle.c_syntax.specs.ReadDeclarator as spec;
-ghost use Rattle.c_syntax.specs.ReadSpecifier.{parsers};
+ghost use Rattle.c_reading.specs.ReadDeclarator as spec;
+ghost use Rattle.c_reading.specs.ReadSpecifier.{parsers};
 ghost use Rattle.c_syntax.specs.Scopes.{parameter_adds};
 ghost use Rattle.c_syntax.specs.View.{parameter_of};
 
@@ -17,12 +17,12 @@ use crate::read::specifier::specifiers;
 use crate::scope::Scope;
 use c_lexer::Token;
 use c_syntax::declarator::Parameter;
-use c_syntax::declarator_form::DeclaratorForm;
+use c_reading::declarator_form::DeclaratorForm;
 use std::alloc::Global;
 
 /// A parameter declaration (6.7.6.3), whose name is in scope behind it.
 #[cycle(reading)]
-#[tactic(auto, unfolding(c_syntax::specs::ReadDeclarator::parameter_at))]
+#[tactic(auto, unfolding(c_reading::specs::ReadDeclarator::parameter_at))]
 pub(crate) fn parameter_at<'a>(
     alloc: Global,
     scope: &mut Scope,

@@ -3,8 +3,8 @@
 ghost use Rattle.std.specs.Prelude.{◌≡◌, map, ◌^◌, ◌≤◌, ◌<◌, ◌++◌, IfOk};
 ghost use Rattle.c_parser.specs.Agree.{Gives};
 ghost use Rattle.c_syntax.specs.Height.{parameters_height};
-ghost use Rattle.c_syntax.specs.ReadDeclarator as spec;
-ghost use Rattle.c_syntax.specs.ReadSpecifier.{parsers};
+ghost use Rattle.c_reading.specs.ReadDeclarator as spec;
+ghost use Rattle.c_reading.specs.ReadSpecifier.{parsers};
 ghost use Rattle.c_syntax.specs.Scopes.{parameters_add};
 ghost use Rattle.c_syntax.specs.View.{parameter_of, parameters};
 
@@ -26,7 +26,7 @@ pub(crate) struct ParameterList {
 
 /// Behind the opening parenthesis.
 #[cycle(reading)]
-#[tactic(auto, unfolding(c_syntax::specs::ReadDeclarator::parameters_at))]
+#[tactic(auto, unfolding(c_reading::specs::ReadDeclarator::parameters_at))]
 pub(crate) fn parameters_at<'a>(
     alloc: Global,
     scope: &mut Scope,

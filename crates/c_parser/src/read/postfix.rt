@@ -3,9 +3,9 @@
 ghost use Rattle.std.specs.Prelude.{◌≡◌, false, map, ◌+◌, ◌^◌, ◌≤◌, ◌<◌, ◌++◌, IfOk};
 ghost use Rattle.c_parser.specs.Agree.{Gives};
 ghost use Rattle.c_syntax.specs.Height.{height, exprs_height};
-ghost use Rattle.c_syntax.specs.Parser.{next_body};
-ghost use Rattle.c_syntax.specs.ReadExpr as spec;
-ghost use Rattle.c_syntax.specs.ReadSpecifier.{parsers};
+ghost use Rattle.c_reading.specs.Parser.{next_body};
+ghost use Rattle.c_reading.specs.ReadExpr as spec;
+ghost use Rattle.c_reading.specs.ReadSpecifier.{parsers};
 ghost use Rattle.c_syntax.specs.Scopes as names;
 ghost use Rattle.c_syntax.specs.Scopes.{expr_adds, exprs_add};
 ghost use Rattle.c_syntax.specs.Tree as trees;
@@ -77,7 +77,7 @@ pub(crate) fn postfixes<'a>(
 
 /// The postfix operator that follows.
 #[cycle(reading)]
-#[tactic(auto, unfolding(c_syntax::specs::ReadExpr::postfix_on, c_syntax::specs::ReadExpr::index, c_syntax::specs::ReadExpr::call))]
+#[tactic(auto, unfolding(c_reading::specs::ReadExpr::postfix_on, c_reading::specs::ReadExpr::index, c_reading::specs::ReadExpr::call))]
 fn postfix_on<'a>(
     alloc: Global,
     scope: &mut Scope,
@@ -184,7 +184,7 @@ fn call<'a>(
 
 /// What stands behind the opening parenthesis of a call.
 #[cycle(reading)]
-#[tactic(auto, unfolding(c_syntax::specs::ReadExpr::arguments))]
+#[tactic(auto, unfolding(c_reading::specs::ReadExpr::arguments))]
 fn arguments<'a>(
     alloc: Global,
     scope: &mut Scope,
@@ -213,7 +213,7 @@ fn arguments<'a>(
 }
 
 /// A member by its name (6.5.2.3).
-#[tactic(auto, unfolding(c_syntax::specs::ReadExpr::access_name))]
+#[tactic(auto, unfolding(c_reading::specs::ReadExpr::access_name))]
 fn access_name(
     alloc: Global,
     left: Part<Expr>,
@@ -243,7 +243,7 @@ fn access_name(
 }
 
 /// `++` or `--` behind its operand (6.5.2.4).
-#[tactic(auto, unfolding(c_syntax::specs::ReadExpr::step_by_one))]
+#[tactic(auto, unfolding(c_reading::specs::ReadExpr::step_by_one))]
 fn step_by_one(
     alloc: Global,
     left: Part<Expr>,

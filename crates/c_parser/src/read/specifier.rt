@@ -3,10 +3,10 @@
 ghost use Rattle.std.specs.Prelude.{◌≡◌, [], ◌+◌, ◌^◌, ◌≤◌, ◌<◌, ◌++◌, IfOk};
 ghost use Rattle.c_parser.specs.Agree.{Gives};
 ghost use Rattle.c_syntax.specs.Height.{specifier_height, specifiers_height};
-ghost use Rattle.c_syntax.specs.Parser.{next_body};
-ghost use Rattle.c_syntax.specs.Parser as parser;
-ghost use Rattle.c_syntax.specs.ReadSpecifier as spec;
-ghost use Rattle.c_syntax.specs.ReadSpecifier.{parsers};
+ghost use Rattle.c_reading.specs.Parser.{next_body};
+ghost use Rattle.c_reading.specs.Parser as parser;
+ghost use Rattle.c_reading.specs.ReadSpecifier as spec;
+ghost use Rattle.c_reading.specs.ReadSpecifier.{parsers};
 ghost use Rattle.c_syntax.specs.Scopes.{specifier_adds, specifiers_add};
 ghost use Rattle.c_syntax.specs.View.{specifier_of, specifiers_of};
 
@@ -19,7 +19,7 @@ use crate::read::enumeration::enumeration;
 use crate::read::word::{basic_of, storage_of, word_at};
 use crate::scope::Scope;
 use c_lexer::{Body, Token, Word};
-use c_syntax::type_seen::TypeSeen;
+use c_reading::type_seen::TypeSeen;
 use c_syntax::specifier::{CompoundWord, Specifier};
 use std::alloc::Global;
 

@@ -4,10 +4,10 @@ ghost use Rattle.std.specs.Prelude.{◌≡◌, ◌+◌, ◌^◌, ◌≤◌, ◌<
 ghost use Rattle.c_parser.specs.Agree.{Gives};
 ghost use Rattle.c_syntax.specs.Height.{height, declarator_height};
 ghost use Rattle.c_syntax.specs.Levels.{conditional};
-ghost use Rattle.c_syntax.specs.Parser.{next_body};
-ghost use Rattle.c_syntax.specs.ReadDeclarator as spec;
-ghost use Rattle.c_syntax.specs.ReadExpr.{expr_lower};
-ghost use Rattle.c_syntax.specs.ReadSpecifier.{parsers};
+ghost use Rattle.c_reading.specs.Parser.{next_body};
+ghost use Rattle.c_reading.specs.ReadDeclarator as spec;
+ghost use Rattle.c_reading.specs.ReadExpr.{expr_lower};
+ghost use Rattle.c_reading.specs.ReadSpecifier.{parsers};
 ghost use Rattle.c_syntax.specs.Scopes as names;
 ghost use Rattle.c_syntax.specs.Scopes.{expr_adds, declarator_adds};
 ghost use Rattle.c_syntax.specs.Tree as trees;
@@ -74,7 +74,7 @@ pub(crate) fn suffixes<'a>(
 
 /// The next array or function.
 #[cycle(reading)]
-#[tactic(auto, unfolding(c_syntax::specs::ReadDeclarator::suffix_on, c_syntax::specs::ReadDeclarator::array_on, c_syntax::specs::ReadDeclarator::function_on))]
+#[tactic(auto, unfolding(c_reading::specs::ReadDeclarator::suffix_on, c_reading::specs::ReadDeclarator::array_on, c_reading::specs::ReadDeclarator::function_on))]
 pub(crate) fn suffix_on<'a>(
     alloc: Global,
     scope: &mut Scope,
@@ -146,7 +146,7 @@ fn array_on<'a>(
 
 /// The length of an array, a constant expression (6.6).
 #[cycle(reading)]
-#[tactic(auto, unfolding(c_syntax::specs::ReadExpr::expr_lower))]
+#[tactic(auto, unfolding(c_reading::specs::ReadExpr::expr_lower))]
 fn length<'a>(
     alloc: Global,
     scope: &mut Scope,

@@ -3,8 +3,8 @@
 ghost use Rattle.std.specs.Prelude.{◌≡◌, ◌+◌, ◌^◌, ◌≤◌, ◌<◌, ◌++◌, IfOk};
 ghost use Rattle.c_parser.specs.Agree.{Gives};
 ghost use Rattle.c_syntax.specs.Height.{type_name_height};
-ghost use Rattle.c_syntax.specs.ReadDeclarator as spec;
-ghost use Rattle.c_syntax.specs.ReadSpecifier.{parsers};
+ghost use Rattle.c_reading.specs.ReadDeclarator as spec;
+ghost use Rattle.c_reading.specs.ReadSpecifier.{parsers};
 ghost use Rattle.c_syntax.specs.Scopes.{type_name_adds};
 ghost use Rattle.c_syntax.specs.View.{type_name_of};
 
@@ -15,13 +15,13 @@ use crate::read::height::declarator;
 use crate::read::specifier::specifiers;
 use crate::scope::Scope;
 use c_lexer::Token;
-use c_syntax::declarator_form::DeclaratorForm;
+use c_reading::declarator_form::DeclaratorForm;
 use c_syntax::type_name::TypeName;
 use std::alloc::Global;
 
 /// A type name (6.7.7).
 #[cycle(reading)]
-#[tactic(auto, unfolding(c_syntax::specs::ReadDeclarator::type_name_at))]
+#[tactic(auto, unfolding(c_reading::specs::ReadDeclarator::type_name_at))]
 pub(crate) fn type_name_at<'a>(
     alloc: Global,
     scope: &mut Scope,

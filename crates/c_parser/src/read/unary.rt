@@ -3,10 +3,10 @@
 ghost use Rattle.std.specs.Prelude.{◌≡◌, ◌+◌, ◌^◌, ◌≤◌, ◌<◌, ◌++◌, IfOk};
 ghost use Rattle.c_parser.specs.Agree.{Gives};
 ghost use Rattle.c_syntax.specs.Height.{height};
-ghost use Rattle.c_syntax.specs.ReadExpr as spec;
-ghost use Rattle.c_syntax.specs.ReadSpecifier.{parsers};
-ghost use Rattle.c_syntax.specs.ReadToken.{prefix_of};
-ghost use Rattle.c_syntax.specs.Parser.{place, next_body};
+ghost use Rattle.c_reading.specs.ReadExpr as spec;
+ghost use Rattle.c_reading.specs.ReadSpecifier.{parsers};
+ghost use Rattle.c_reading.specs.ReadToken.{prefix_of};
+ghost use Rattle.c_reading.specs.Parser.{place, next_body};
 ghost use Rattle.c_syntax.specs.Scopes.{expr_adds};
 ghost use Rattle.c_syntax.specs.Tree as tree;
 ghost use Rattle.c_syntax.specs.View.{expr_of};
@@ -29,7 +29,7 @@ use std::alloc::Global;
 
 /// An expression in parentheses, behind the first of them.
 #[cycle(reading)]
-#[tactic(auto, unfolding(c_syntax::specs::ReadExpr::paren_expr, c_syntax::specs::ReadExpr::expr_lower))]
+#[tactic(auto, unfolding(c_reading::specs::ReadExpr::paren_expr, c_reading::specs::ReadExpr::expr_lower))]
 pub(crate) fn paren_expr_at<'a>(
     alloc: Global,
     scope: &mut Scope,
@@ -55,7 +55,7 @@ pub(crate) fn paren_expr_at<'a>(
 
 /// A cast, behind its first parenthesis, which stands at this place.
 #[cycle(reading)]
-#[tactic(auto, unfolding(c_syntax::specs::ReadExpr::cast_on))]
+#[tactic(auto, unfolding(c_reading::specs::ReadExpr::cast_on))]
 fn cast_on<'a>(
     alloc: Global,
     scope: &mut Scope,
@@ -77,7 +77,7 @@ fn cast_on<'a>(
 
 /// Behind a parenthesis that stands at this place: a cast, where one may stand, or an expression in parentheses.
 #[cycle(reading)]
-#[tactic(auto, unfolding(c_syntax::specs::ReadExpr::inside))]
+#[tactic(auto, unfolding(c_reading::specs::ReadExpr::inside))]
 fn inside<'a>(
     alloc: Global,
     scope: &mut Scope,
@@ -102,7 +102,7 @@ fn inside<'a>(
 
 /// A type name and the parenthesis behind it, for an operator at this place.
 #[cycle(reading)]
-#[tactic(auto, unfolding(c_syntax::specs::ReadExpr::type_measure))]
+#[tactic(auto, unfolding(c_reading::specs::ReadExpr::type_measure))]
 fn type_measure<'a>(
     alloc: Global,
     scope: &mut Scope,
@@ -124,7 +124,7 @@ fn type_measure<'a>(
 
 /// Behind `sizeof`, at this place, and a parenthesis: a type name, or an operand that begins with the parenthesis.
 #[cycle(reading)]
-#[tactic(auto, unfolding(c_syntax::specs::ReadExpr::size_behind_paren))]
+#[tactic(auto, unfolding(c_reading::specs::ReadExpr::size_behind_paren))]
 fn size_behind_paren<'a>(
     alloc: Global,
     scope: &mut Scope,
@@ -147,7 +147,7 @@ fn size_behind_paren<'a>(
 
 /// Behind `sizeof`, which stands at this place.
 #[cycle(reading)]
-#[tactic(auto, unfolding(c_syntax::specs::ReadExpr::size))]
+#[tactic(auto, unfolding(c_reading::specs::ReadExpr::size))]
 fn size<'a>(
     alloc: Global,
     scope: &mut Scope,
@@ -170,7 +170,7 @@ fn size<'a>(
 
 /// Behind `_Alignof`, which stands at this place.
 #[cycle(reading)]
-#[tactic(auto, unfolding(c_syntax::specs::ReadExpr::alignment))]
+#[tactic(auto, unfolding(c_reading::specs::ReadExpr::alignment))]
 fn alignment<'a>(
     alloc: Global,
     scope: &mut Scope,
@@ -189,7 +189,7 @@ fn alignment<'a>(
 
 /// A prefix operator and its operand.
 #[cycle(reading)]
-#[tactic(auto, unfolding(c_syntax::specs::ReadExpr::prefix_expr))]
+#[tactic(auto, unfolding(c_reading::specs::ReadExpr::prefix_expr))]
 fn prefix_expr<'a>(
     alloc: Global,
     scope: &mut Scope,
@@ -252,7 +252,7 @@ fn name<'a>(
 
 /// Behind a string literal at this place: more of its width, and postfix operators.
 #[cycle(reading)]
-#[tactic(auto, unfolding(c_syntax::specs::ReadExpr::text))]
+#[tactic(auto, unfolding(c_reading::specs::ReadExpr::text))]
 fn text<'a>(
     alloc: Global,
     scope: &mut Scope,
@@ -275,7 +275,7 @@ fn text<'a>(
 
 /// A unary expression or a cast, with the postfix operators behind it.
 #[cycle(reading)]
-#[tactic(auto, unfolding(c_syntax::specs::ReadExpr::unary_at, c_syntax::specs::ReadExpr::prefix_expr))]
+#[tactic(auto, unfolding(c_reading::specs::ReadExpr::unary_at, c_reading::specs::ReadExpr::prefix_expr))]
 pub(crate) fn unary_at<'a>(
     alloc: Global,
     scope: &mut Scope,

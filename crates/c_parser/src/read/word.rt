@@ -3,10 +3,10 @@
 ghost use Rattle.std.specs.Prelude.{◌≡◌, [], IfOk};
 ghost use Rattle.c_parser.specs.Agree.{Gives};
 ghost use Rattle.c_syntax.specs.Height.{specifier_height};
-ghost use Rattle.c_syntax.specs.Parser.{next_body};
-ghost use Rattle.c_syntax.specs.Parser as parser;
-ghost use Rattle.c_syntax.specs.ReadSpecifier as spec;
-ghost use Rattle.c_syntax.specs.ReadToken as tokens_of;
+ghost use Rattle.c_reading.specs.Parser.{next_body};
+ghost use Rattle.c_reading.specs.Parser as parser;
+ghost use Rattle.c_reading.specs.ReadSpecifier as spec;
+ghost use Rattle.c_reading.specs.ReadToken as tokens_of;
 ghost use Rattle.c_syntax.specs.Scopes.{specifier_adds};
 ghost use Rattle.c_syntax.specs.View.{specifier_of};
 

@@ -4,16 +4,16 @@ use Rattle.std.specs.Option.{option_map}
 use Rattle.std.proofs.lemmas.Result.{err_from_is_err_and}
 use Rattle.c_lexer.specs.declared.punct.Punct.TheVariants as punct
 use Rattle.c_parser.specs.Agree.{Gives}
-use Rattle.c_syntax.specs.Parser.{Found}
-use Rattle.c_syntax.specs.ReadBody.{statements, goes_item, optional}
-use Rattle.c_syntax.specs.ReadToken.{is_mark}
+use Rattle.c_reading.specs.Parser.{Found}
+use Rattle.c_reading.specs.ReadBody.{statements, goes_item, optional}
+use Rattle.c_reading.specs.ReadToken.{is_mark}
 use Rattle.c_syntax.specs.ScopesUnit.{block_item_adds, switch_item_adds}
 use Rattle.c_syntax.specs.View.{expr_of}
 use Rattle.c_syntax.specs.ViewUnit.{for_init_of, statement_of, block_item_of, switch_item_of}
 use Rattle.c_parser.proofs.ForParts.{step_refused, turn_refused, for_read}
 use Rattle.c_parser.proofs.InScope.{longer_still, kept_still}
 use Rattle.c_parser.proofs.LowerStatements.{statements_at}
-use Rattle.c_syntax.proofs.OnlineStatement.{statements_online}
+use Rattle.c_reading.proofs.Online.Statement.{statements_online}
 use Rattle.c_parser.proofs.Pushed.{pushed}
 use Rattle.c_parser.proofs.Refused.{refused}
 use Rattle.c_parser.proofs.Turns.{all_over, all_refused, all_turn, all_shorter}

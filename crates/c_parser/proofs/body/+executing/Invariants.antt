@@ -1,7 +1,11 @@
 -- Each call ends by what is left of the height, and within one height by who calls whom.
+--
+-- What decreases is 64 * (height left) + rank. A call with one height less takes 64 off; at one height a function has a
+-- higher rank than each that it calls: 40 an item of a switch, 30 an item of a block, 20 a statement, 9 and 10 behind the
+-- word of a statement, 1 to 3 blocks. `statement`, `block_item` and `switch_item` have rank 0 and go to one height less.
 use Rattle.std.proofs.Common.{◌≡◌, length, map, take, ◌+◌, ◌*◌, ◌≤◌, ◌++◌}
-use Rattle.c_syntax.specs.Parser.{and_then, pure}
-use Rattle.c_syntax.specs.ReadBody.{block_run, switch_run, statements}
+use Rattle.c_reading.specs.Parser.{and_then, pure}
+use Rattle.c_reading.specs.ReadBody.{block_run, switch_run, statements}
 use Rattle.c_syntax.specs.ViewUnit.{block_item_of, switch_item_of}
 use Rattle.c_parser.proofs.body.+executing.Given as goal
 

@@ -1,3 +1,4 @@
+-- The goals of `declare_own_parameters` that are answered by hand.
 use Rattle.std.proofs.Common.{◌≡◌, true, rules, ◌∙◌, ap, append_assoc}
 use Rattle.std.proofs.lemmas.Result.{IfOk-equal}
 use Rattle.c_syntax.specs.ScopesUnit.{is_identifier, own_parameters, own_parameters_add}

@@ -1,3 +1,4 @@
+-- The goals of the functions that declare the names of a node that are answered by hand.
 use Rattle.std.proofs.Common.{rules, ◌∙◌, ap, append_assoc}
 use Rattle.std.proofs.lemmas.Result.{IfOk-equal}
 use Rattle.c_syntax.specs.Scopes.{expr_adds, specifier_adds}

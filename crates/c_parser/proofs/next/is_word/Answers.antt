@@ -1,7 +1,8 @@
+-- The goals of `is_word` that are answered by hand.
 use Rattle.std.proofs.Common.{◌≡◌, Some, option_copied, ◌∙◌, ap, sym}
 use Rattle.c_lexer.specs.declared.token.Body.TheVariants as lexeme
-use Rattle.c_syntax.specs.Parser.{next_body}
-use Rattle.c_syntax.specs.ReadToken.{is_word}
+use Rattle.c_reading.specs.Parser.{next_body}
+use Rattle.c_reading.specs.ReadToken.{is_word}
 use Rattle.c_parser.proofs.NextToken.{word_tested}
 use Rattle.c_parser.proofs.next.is_word.Goals as goal
 

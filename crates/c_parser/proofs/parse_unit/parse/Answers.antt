@@ -1,10 +1,11 @@
+-- The goals of `parse` that are answered by hand.
 use Rattle.std.proofs.Common.{◌≡◌, map, sym, ◌∙◌, ap, subst}
 use Rattle.c_syntax.specs.Parsing.{SpelledBy, RefusedAt}
-use Rattle.c_syntax.specs.Parser.{Found, Stopped, Unfit, TooDeep}
-use Rattle.c_syntax.specs.ReadBody.{externals}
+use Rattle.c_reading.specs.Parser.{Found, Stopped, Unfit, TooDeep}
+use Rattle.c_reading.specs.ReadBody.{externals}
 use Rattle.c_syntax.specs.ViewUnit.{external_of}
-use Rattle.c_syntax.proofs.ParseLaws.{spelled_by}
-use Rattle.c_syntax.proofs.RefusalLaws.{refused_at, reason_of}
+use Rattle.c_reading.proofs.ParseLaws.{spelled_by}
+use Rattle.c_reading.proofs.RefusalLaws.{refused_at, reason_of}
 use Rattle.c_parser.proofs.parse_unit.parse.Goals as goal
 
 pub returns-in-Ok-clause-tree : goal.returns-in-Ok-clause-tree

@@ -3,14 +3,14 @@ use Rattle.std.proofs.Common.{◌++◌, map, ap, sym, ◌∙◌, refl, subst, ar
 use Rattle.std.proofs.lemmas.Result.{err_from_is_err_and}
 use Rattle.c_parser.specs.Agree.{Gives, Refuses}
 use Rattle.c_syntax.specs.View.{expr_of, type_name_of, declarator_of, parameter_of, member_of, specifier_of}
-use Rattle.c_syntax.specs.Parser.{Found, expect}
-use Rattle.c_syntax.specs.ReadExpr.{postfixes, infixes}
+use Rattle.c_reading.specs.Parser.{Found, expect}
+use Rattle.c_reading.specs.ReadExpr.{postfixes, infixes}
 use Rattle.c_syntax.specs.Scopes.{declarator_adds}
 use Rattle.c_parser.proofs.Pushed.{pushed, row_height, row_scope, expr_row}
 use Rattle.c_parser.proofs.ClimbTurns.{climb_start, climbed, too_high, climb_stopped, climb_on}
 use Rattle.c_parser.proofs.ManyTurns.{run_over, run_stopped, run_shorter, run_on}
 use Rattle.c_parser.proofs.ListTurns.{arguments_listed, declarators_listed, parameters_listed, enumerators_listed, listing_stopped, listing_last, listing_ended, listing_shorter, listing_on}
-use Rattle.c_syntax.specs.ReadSpecifier.{parsers, all_members, type_seen_with, types_seen}
+use Rattle.c_reading.specs.ReadSpecifier.{parsers, all_members, type_seen_with, types_seen}
 use Rattle.c_syntax.proofs.HeightLaws.{expr_high}
 use Rattle.c_parser.proofs.Refused.{refused}
 use Rattle.c_parser.proofs.Turns.{then_stopped}
@@ -18,11 +18,11 @@ use Rattle.c_lexer.specs.declared.punct.Punct.TheVariants as p
 use Rattle.c_parser.proofs.LowerParsers.{parsers_at}
 use Rattle.c_parser.proofs.read.+reading.Goals as goal
 use Rattle.std.proofs.lemmas.List.{append-nil}
-use Rattle.c_syntax.specs.ReadDeclarator.{qualifiers, suffix_on, suffixes, pointer}
+use Rattle.c_reading.specs.ReadDeclarator.{qualifiers, suffix_on, suffixes, pointer}
 use Rattle.c_syntax.specs.Tree.{Omitted}
-use Rattle.c_syntax.specs.ReadToken.{is_mark}
+use Rattle.c_reading.specs.ReadToken.{is_mark}
 use Rattle.c_parser.proofs.SpecifierTurns.{body_refused, body_unclosed, many_stopped, enumerator_row, member_row, specifier_row, body_all, members_run, specifiers_run, types_seen_more, no_type, some_types}
-use Rattle.c_syntax.specs.declared.type_seen.TypeSeen.TheVariants.{Nothing}
+use Rattle.c_reading.specs.declared.type_seen.TypeSeen.TheVariants.{Nothing}
 use Rattle.c_parser.proofs.PushedDeclarator.{declarator_row, parameter_row}
 
 -- ---- the parsers of each height

@@ -1,14 +1,24 @@
 -- Each call ends by what is left of the height, and within one height by who calls whom.
+--
+-- What decreases is 64 * (height left) + rank. A call with one height less takes 64 off, whatever its rank; at one height
+-- a function has a higher rank than each that it calls:
+--   60        the whole of a class: expr_at, type_name_at, declarator_at, parameter_at, member_at, specifier_at
+--   48 to 50  declarators by their first token; 30 to 50 structures, unions and enumerations, from the word inwards
+--   37 to 40  what follows the identifier of a declarator
+--   8 to 20   unary expressions by their first token, and what stands behind it
+--   1 to 5    postfix operators, operators between operands, lists, and what ends without a further call at the height
+-- The functions of `height` (and `specifier_within`) have rank 0: at height h they go to a function at h - 1. A loop
+-- decreases by the tokens left, or by the height left above the node that it has made so far.
 use Rattle.std.proofs.Common.{◌≡◌, length, map, ◌+◌, ◌-◌, ◌*◌, ◌≤◌, ◌++◌}
 use Rattle.c_syntax.specs.Height.{height, exprs_height, declarator_height, enumerators_height, members_height, specifiers_height, declarators_height, parameters_height}
-use Rattle.c_syntax.specs.Parser.{and_then, pure, many}
-use Rattle.c_syntax.specs.ReadExpr.{goes_postfix, postfix_on, postfixes, listed_arguments, goes_infix, infix_on, infixes}
-use Rattle.c_syntax.specs.ReadSpecifier.{parsers, listed_enumerators, all_members, more_members, goes_specifier, specified_with, types_seen}
+use Rattle.c_reading.specs.Parser.{and_then, pure, many}
+use Rattle.c_reading.specs.ReadExpr.{goes_postfix, postfix_on, postfixes, listed_arguments, goes_infix, infix_on, infixes}
+use Rattle.c_reading.specs.ReadSpecifier.{parsers, listed_enumerators, all_members, more_members, goes_specifier, specified_with, types_seen}
 use Rattle.c_syntax.specs.Scopes.{expr_adds, exprs_add, declarator_adds, enumerators_add, members_add, specifiers_add, declarators_add, parameters_add}
 use Rattle.c_syntax.specs.View.{expr_of, exprs, declarator_of, enumerator_of, enumerators, member_of, members, specifier_of, specifiers_of, declarators, parameter_of, parameters}
 use Rattle.c_parser.proofs.read.+reading.Given as goal
-use Rattle.c_syntax.specs.ReadDeclarator.{goes_suffix, suffix_on, suffixes, listed_declarators, listed_parameters}
-use Rattle.c_syntax.specs.declared.type_seen.TypeSeen.TheVariants.{Nothing}
+use Rattle.c_reading.specs.ReadDeclarator.{goes_suffix, suffix_on, suffixes, listed_declarators, listed_parameters}
+use Rattle.c_reading.specs.declared.type_seen.TypeSeen.TheVariants.{Nothing}
 use Rattle.c_parser.proofs.ClimbTurns.{Climbing}
 use Rattle.c_parser.proofs.ListTurns.{Listing}
 use Rattle.c_parser.proofs.SpecifierTurns.{step, start}

@@ -1,3 +1,4 @@
+-- The goals of the functions that spell expressions, specifiers and declarators that are answered by hand.
 use Rattle.std.proofs.Common.{rules, ◌∙◌, ap, append_assoc}
 use Rattle.std.proofs.lemmas.Result.{IfOk-equal}
 use Rattle.c_syntax.specs.Spelling.{spell, spell_specifier, spell_declarator}

@@ -1,3 +1,4 @@
+-- The goals of `function` that are answered by hand.
 use Rattle.std.proofs.Common.{rules, append_assoc}
 use Rattle.std.proofs.lemmas.Result.{IfOk-equal}
 use Rattle.c_syntax.proofs.SpelledListsUnit.{spells_function}

@@ -1,3 +1,4 @@
+-- What the loop of `init_declarators` keeps.
 use Rattle.std.proofs.Common.{◌≡◌, ◌∷◌, ◌++◌, map, take}
 use Rattle.std.specs.List.{flat_map}
 use Rattle.c_lexer.specs.declared.punct.Punct.TheVariants as p

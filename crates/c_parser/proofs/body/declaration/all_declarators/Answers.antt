@@ -1,14 +1,15 @@
+-- The goals of `all_declarators` that are answered by hand.
 use Rattle.std.proofs.Common.{List, [], ◌∷◌, ◌++◌, map, ap, sym, ◌∙◌, refl}
 use Rattle.std.proofs.lemmas.List.{append-nil}
 use Rattle.std.proofs.lemmas.Result.{err_from_is_err_and}
 use Rattle.c_lexer.specs.declared.punct.Punct.TheVariants as p
-use Rattle.c_syntax.specs.Parser.{and_then, pure, ones}
-use Rattle.c_syntax.specs.ReadBody.{init_declarator, more_declarators, init_declarator_adds}
+use Rattle.c_reading.specs.Parser.{and_then, pure, ones}
+use Rattle.c_reading.specs.ReadBody.{init_declarator, more_declarators, init_declarator_adds}
 use Rattle.c_syntax.specs.ScopesUnit.{init_declarators_add}
 use Rattle.c_syntax.specs.TreeUnit.{InitDeclarator}
 use Rattle.c_syntax.specs.ViewUnit.{init_declarator_of}
-use Rattle.c_syntax.proofs.OnlineBody.{init_declarator_online}
-use Rattle.c_syntax.proofs.OnlineTools.{online_pure}
+use Rattle.c_reading.proofs.Online.Declaration.{init_declarator_online}
+use Rattle.c_reading.proofs.Online.Steps.{online_pure}
 use Rattle.c_parser.proofs.Pushed.{pushed, added}
 use Rattle.c_parser.proofs.PushedBody.{inits_add_more}
 use Rattle.c_parser.proofs.Refused.{refused}

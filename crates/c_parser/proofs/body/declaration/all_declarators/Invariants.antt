@@ -1,7 +1,7 @@
 -- The declarators so far, and those behind them.
 use Rattle.std.proofs.Common.{◌≡◌, List, ◌++◌, length, map}
-use Rattle.c_syntax.specs.Parser.{and_then, pure, ones}
-use Rattle.c_syntax.specs.ReadBody.{more_declarators, all_declarators, init_declarator_adds}
+use Rattle.c_reading.specs.Parser.{and_then, pure, ones}
+use Rattle.c_reading.specs.ReadBody.{more_declarators, all_declarators, init_declarator_adds}
 use Rattle.c_syntax.specs.Scopes.{Scope}
 use Rattle.c_syntax.specs.ScopesUnit.{init_declarators_add}
 use Rattle.c_syntax.specs.TreeUnit.{InitDeclarator}

@@ -3,13 +3,14 @@ use Rattle.std.proofs.Common.{◌≡◌, ℕ, zero, suc, [], ◌∷◌, ◌++◌
 use Rattle.std.proofs.lemmas.Result.{err_from_is_err_and}
 use Rattle.c_lexer.specs.declared.punct.Punct.TheVariants as p
 use Rattle.c_parser.specs.Agree.{Gives}
-use Rattle.c_syntax.specs.ReadBody.{initializers, listed_items, items}
-use Rattle.c_syntax.specs.Parser.{Found, next_body, tail}
-use Rattle.c_syntax.specs.ReadToken.{is_mark}
+use Rattle.c_reading.specs.ReadBody.{initializers, listed_items}
+use Rattle.c_syntax.specs.ViewUnit.{items}
+use Rattle.c_reading.specs.Parser.{Found, next_body, tail}
+use Rattle.c_reading.specs.ReadToken.{is_mark}
 use Rattle.c_syntax.specs.ScopesUnit.{items_add}
 use Rattle.c_syntax.specs.ViewUnit.{initializer_of, item_of}
-use Rattle.c_syntax.proofs.OnlineBody.{initializers_online}
-use Rattle.c_syntax.proofs.OnlineTools.{online_pure}
+use Rattle.c_reading.proofs.Online.Declaration.{initializers_online}
+use Rattle.c_reading.proofs.Online.Steps.{online_pure}
 use Rattle.c_parser.proofs.Pushed.{pushed, added}
 use Rattle.c_parser.proofs.PushedBody.{items_add_more}
 use Rattle.c_parser.proofs.Refused.{refused}

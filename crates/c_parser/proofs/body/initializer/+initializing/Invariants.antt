@@ -1,7 +1,11 @@
 -- Each call ends by what is left of the height, and within one height by who calls whom.
+--
+-- What decreases is 64 * (height left) + rank; at one height a function has a higher rank than each that it calls: 3 an
+-- initializer or an item, 2 braces, 1 what stands in them. `initializer` and `item` have rank 0, and go to one height less.
 use Rattle.std.proofs.Common.{◌≡◌, List, Bool, length, map, ◌+◌, ◌*◌, ◌++◌}
-use Rattle.c_syntax.specs.Parser.{and_then, pure}
-use Rattle.c_syntax.specs.ReadBody.{initializers, listed_items, items}
+use Rattle.c_reading.specs.Parser.{and_then, pure}
+use Rattle.c_reading.specs.ReadBody.{initializers, listed_items}
+use Rattle.c_syntax.specs.ViewUnit.{items}
 use Rattle.c_syntax.specs.ScopesUnit.{items_add}
 use Rattle.c_syntax.specs.TreeUnit.{Item}
 use Rattle.c_syntax.specs.ViewUnit.{item_of}

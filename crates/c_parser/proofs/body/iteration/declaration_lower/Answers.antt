@@ -1,3 +1,4 @@
+-- The goals of `declaration_lower` that are answered by hand.
 use Rattle.std.proofs.Common.{sym, subst}
 use Rattle.c_parser.specs.Agree.{Gives}
 use Rattle.c_syntax.specs.ViewUnit.{declaration_of}

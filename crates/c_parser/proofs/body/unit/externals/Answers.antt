@@ -1,8 +1,9 @@
+-- The goals of `externals` that are answered by hand.
 use Rattle.std.proofs.Common.{◌≡◌, false, [], ◌∷◌, ◌++◌, map, refl, ◌∙◌, ap, rules}
 use Rattle.std.proofs.lemmas.Result.{err_from_is_err_and}
-use Rattle.c_syntax.specs.ReadBody.{external_at}
+use Rattle.c_reading.specs.ReadBody.{external_at}
 use Rattle.c_syntax.specs.ViewUnit.{external_of}
-use Rattle.c_syntax.proofs.OnlineStatement.{external_at_online, external_at_takes}
+use Rattle.c_reading.proofs.Online.Statement.{external_at_online, external_at_takes}
 use Rattle.c_parser.proofs.Pushed.{pushed}
 use Rattle.c_parser.proofs.Refused.{refused}
 use Rattle.c_parser.proofs.Turns.{all_over, all_refused, all_turn, all_shorter}

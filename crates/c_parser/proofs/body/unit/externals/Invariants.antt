@@ -1,7 +1,8 @@
+-- What the loop of `externals` keeps.
 use Rattle.std.proofs.Common.{◌≡◌, length, map, ◌++◌}
 use Rattle.std.specs.Prelude.{is_some}
-use Rattle.c_syntax.specs.Parser.{and_then, pure, many}
-use Rattle.c_syntax.specs.ReadBody.{external_at, externals}
+use Rattle.c_reading.specs.Parser.{and_then, pure, many}
+use Rattle.c_reading.specs.ReadBody.{external_at, externals}
 use Rattle.c_syntax.specs.ScopesUnit.{external_adds}
 use Rattle.c_syntax.specs.ViewUnit.{external_of}
 use Rattle.c_parser.proofs.body.unit.externals.Given as goal

@@ -1,3 +1,4 @@
+-- The goals of `function` that are answered by hand.
 use Rattle.std.proofs.Common.{◌∙◌, ap}
 use Rattle.c_syntax.specs.View.{declarator_of}
 use Rattle.c_syntax.proofs.SpelledLists.{function_seen}

@@ -1,3 +1,4 @@
+-- The goals of `braces` that are answered by hand.
 use Rattle.std.proofs.Common.{ap, ◌∙◌}
 use Rattle.c_syntax.specs.ViewUnit.{initializer_of}
 use Rattle.c_syntax.proofs.SpelledListsUnit.{built_braces}

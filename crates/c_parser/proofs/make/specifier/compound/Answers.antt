@@ -1,3 +1,4 @@
+-- The goals of `compound` that are answered by hand.
 use Rattle.std.proofs.Common.{ap, ◌∙◌}
 use Rattle.c_syntax.specs.View.{specifier_of}
 use Rattle.c_syntax.proofs.SpelledLists.{compound_tree}

@@ -1,5 +1,6 @@
+-- The goals of `switch` that are answered by hand.
 use Rattle.std.proofs.Common.{◌∙◌, ap, map}
-use Rattle.c_syntax.specs.ReadBody.{switch_items}
+use Rattle.c_syntax.specs.ViewUnit.{switch_items}
 use Rattle.c_syntax.specs.TreeUnit.{Switch}
 use Rattle.c_syntax.specs.View.{expr_of}
 use Rattle.c_syntax.specs.ViewUnit.{statement_of, switch_item_of}

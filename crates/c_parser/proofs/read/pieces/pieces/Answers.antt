@@ -1,7 +1,8 @@
+-- The goals of `pieces` that are answered by hand.
 use Rattle.std.proofs.Common.{◌≡◌, [], ◌∷◌, ◌++◌, refl, sym, ◌∙◌, ap}
-use Rattle.c_syntax.specs.Parser.{Found}
-use Rattle.c_syntax.specs.ReadExpr.{pieces}
-use Rattle.c_syntax.proofs.OnlineExpr.{piece_online, piece_takes, no_literal}
+use Rattle.c_reading.specs.Parser.{Found}
+use Rattle.c_reading.specs.ReadExpr.{pieces}
+use Rattle.c_reading.proofs.Online.Expr.{piece_online, piece_takes, no_literal}
 use Rattle.c_parser.proofs.Turns.{all_over, all_turn}
 use Rattle.c_parser.proofs.read.pieces.pieces.Goals as goal
 

@@ -1,7 +1,7 @@
 -- The literals so far, and those behind them.
 use Rattle.std.proofs.Common.{◌≡◌, ℤ, List, length, ◌++◌}
-use Rattle.c_syntax.specs.Parser.{and_then, pure}
-use Rattle.c_syntax.specs.ReadExpr.{pieces}
+use Rattle.c_reading.specs.Parser.{and_then, pure}
+use Rattle.c_reading.specs.ReadExpr.{pieces}
 use Rattle.c_parser.proofs.read.pieces.pieces.Given as goal
 
 abbrev pub invariant-each : goal.invariant-each

@@ -1,10 +1,11 @@
+-- The goals of `qualifiers` that are answered by hand.
 use Rattle.std.proofs.Common.{◌≡◌, false, List, Some, None, Option, is_some, refl, sym, ◌∙◌, ap}
 use Rattle.c_lexer.specs.declared.token.Token.{Token}
 use Rattle.c_syntax.specs.declared.specifier.Qualifier.{Qualifier}
-use Rattle.c_syntax.specs.Parser.{Found, next_body, tail}
-use Rattle.c_syntax.specs.ReadToken.{qualifier_of}
-use Rattle.c_syntax.specs.ReadDeclarator.{qualifier_by, qualifier, qualifiers}
-use Rattle.c_syntax.proofs.OnlineDeclarator.{qualifier_online, qualifier_takes}
+use Rattle.c_reading.specs.Parser.{Found, next_body, tail}
+use Rattle.c_reading.specs.ReadToken.{qualifier_of}
+use Rattle.c_reading.specs.ReadDeclarator.{qualifier_by, qualifier, qualifiers}
+use Rattle.c_reading.proofs.Online.Declarator.{qualifier_online, qualifier_takes}
 use Rattle.c_parser.proofs.Turns.{all_over, all_turn}
 use Rattle.c_parser.proofs.read.qualifier.qualifiers.Goals as goal
 

@@ -1,6 +1,7 @@
+-- What the loop of `qualifiers` keeps.
 use Rattle.std.proofs.Common.{◌≡◌, ◌++◌, length}
-use Rattle.c_syntax.specs.Parser.{and_then, pure}
-use Rattle.c_syntax.specs.ReadDeclarator.{qualifiers}
+use Rattle.c_reading.specs.Parser.{and_then, pure}
+use Rattle.c_reading.specs.ReadDeclarator.{qualifiers}
 use Rattle.c_syntax.specs.Scopes.{Scope}
 use Rattle.c_parser.proofs.read.qualifier.qualifiers.Given as goal
 

@@ -1,3 +1,4 @@
+-- The goals of `declare` that are answered by hand.
 use Rattle.std.proofs.Common.{◌≡◌, [], ◌∷◌, ◌++◌, Some, sym, ◌∙◌, subst}
 use Rattle.std.specs.BTreeMap.{get, Updates}
 use Rattle.std.specs.Cmp.Lexicographic.{slice_cmp}
