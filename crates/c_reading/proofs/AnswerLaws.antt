@@ -1,5 +1,6 @@
 -- A unit's tokens have one tree or one refused place, and not both.
-use Rattle.std.proofs.Common.{◌≡◌, ◌⊎◌, inl, inr, ℕ, List, [], ◌∷◌, ◌++◌, refl, sym, ◌∙◌, ap, subst, append_assoc, append-nil}
+use Rattle.std.proofs.Common.{◌≡◌, ◌⊎◌, inl, inr, ℕ, List, [], ◌∷◌, ◌++◌, refl, sym, ◌∙◌, ap, subst, append_assoc}
+use Rattle.std.proofs.Common.{append-nil}
 use Rattle.critical_table.specs.declared.pos.Pos.{Pos}
 use Rattle.critical_table.specs.declared.refusal.Refusal.{Refusal}
 use Rattle.critical_table.specs.declared.refusal.Refusal.TheVariants.{Syntax, Deep}
@@ -79,14 +80,16 @@ begins_whole stream tree is = record {
 none_whole : (stream : Stream) (why : Refusal) (pos : Pos)
     → RefusedAtToken stream why pos → BeginsTree greatest_height stream.tokens → ⊥
 none_whole stream why pos at begins =
-    at.first (begins_before greatest_height at.before at.after at.token (subst (BeginsTree greatest_height) at.parts begins))
+    at.first (begins_before greatest_height at.before at.after at.token
+    (subst (BeginsTree greatest_height) at.parts begins))
 
 pub not_both : (stream : Stream) (tree : Tree) (why : Refusal) (pos : Pos)
     → SpelledBy stream tree → RefusedAt stream why pos → ⊥
 not_both stream tree why pos is (inl at) = none_whole stream why pos at (begins_whole stream tree is)
 not_both stream tree why pos is (inr at) = at.none (tree, is.fits, is.spells)
 
-one_reason : (why other_why : Refusal) (tokens : List Token) → IsReason why tokens → IsReason other_why tokens → why ≡ other_why
+one_reason : (why other_why : Refusal) (tokens : List Token) → IsReason why tokens → IsReason other_why tokens
+    → why ≡ other_why
 one_reason Deep Deep tokens is is' = refl
 one_reason Deep Syntax tokens is is' = absurd (is' is.0 is.1)
 one_reason Syntax Deep tokens is is' = absurd (is is'.0 is'.1)
@@ -105,16 +108,21 @@ at_one_token stream why other_why pos other_pos at at' =
         at.place ∙ ap (λ token. token.pos) same.1 ∙ sym at'.place,
       )
       | inr (inl later) ↦ absurd (
-          at.first (begins_before greatest_height at.before later.0 at.token (subst (BeginsTree greatest_height) later.1 at'.begins))
+          at.first (begins_before greatest_height at.before later.0 at.token
+          (subst (BeginsTree greatest_height) later.1 at'.begins))
           )
       | inr (inr later) ↦ absurd (
-          at'.first (begins_before greatest_height at'.before later.0 at'.token (subst (BeginsTree greatest_height) later.1 at.begins))
+          at'.first (begins_before greatest_height at'.before later.0 at'.token
+          (subst (BeginsTree greatest_height) later.1 at.begins))
           )
     ]
 
 pub one_refusal : (stream : Stream) (why other_why : Refusal) (pos other_pos : Pos)
     → RefusedAt stream why pos → RefusedAt stream other_why other_pos → (why ≡ other_why) × (pos ≡ other_pos)
-one_refusal stream why other_why pos other_pos (inl at) (inl at') = at_one_token stream why other_why pos other_pos at at'
+one_refusal stream why other_why pos other_pos (inl at) (inl at') =
+    at_one_token stream why other_why pos other_pos at at'
 one_refusal stream why other_why pos other_pos (inl at) (inr at') = absurd (none_whole stream why pos at at'.begins)
-one_refusal stream why other_why pos other_pos (inr at) (inl at') = absurd (none_whole stream other_why other_pos at' at.begins)
-one_refusal stream why other_why pos other_pos (inr at) (inr at') = (at.reason ∙ sym at'.reason, at.place ∙ sym at'.place)
+one_refusal stream why other_why pos other_pos (inr at) (inl at') =
+    absurd (none_whole stream other_why other_pos at' at.begins)
+one_refusal stream why other_why pos other_pos (inr at) (inr at') =
+    (at.reason ∙ sym at'.reason, at.place ∙ sym at'.place)

@@ -6,7 +6,8 @@ use Rattle.c_syntax.specs.declared.operator.Comparison.{Comparison}
 use Rattle.c_syntax.specs.declared.operator.Comparison.TheVariants as c
 use Rattle.c_syntax.specs.declared.operator.Infix.{Infix}
 use Rattle.c_syntax.specs.declared.operator.Infix.TheVariants as between
-use Rattle.c_syntax.specs.Levels.{conditional, unary, arithmetic_level, comparison_level, infix_level, left_level, right_level}
+use Rattle.c_syntax.specs.Levels.{conditional, unary, arithmetic_level, comparison_level, infix_level, left_level}
+use Rattle.c_syntax.specs.Levels.{right_level}
 use Rattle.c_reading.specs.ReadExpr.{own_level}
 use Rattle.c_syntax.specs.Scopes.{Scope}
 use Rattle.c_syntax.specs.Tree as tree
@@ -102,7 +103,8 @@ follows between.Comma next low = let h = infix_below_left next in omega arith
 
 -- ---- expressions
 
-pub is_down : (e : Expr) (scope : Scope) (level higher : ℕ) → level ≤ higher → IsExpr e scope higher → IsExpr e scope level
+pub is_down : (e : Expr) (scope : Scope) (level higher : ℕ) → level ≤ higher → IsExpr e scope higher
+    → IsExpr e scope level
 is_down (tree.Const pos constant) scope level higher low is = is
 is_down (tree.Id pos x) scope level higher low is = is
 is_down (tree.Text pos text) scope level higher low is = is

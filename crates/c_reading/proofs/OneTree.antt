@@ -33,22 +33,30 @@ ends level = record { no_literal = no_literal; no_postfix = λ k low left. refl;
 same_found : {A : Type 0} (g : Outcome A) (a b : A) (rest : List Token) → g ≡ Found a rest → g ≡ Found b rest → a ≡ b
 same_found g a b rest one two = cc
 
-pub one_expr : (scope : Scope) (a b : Expr) (tokens : List Token) → IsExpr a scope expression → IsExpr b scope expression → Match tokens (spell a) → Match tokens (spell b) → a ≡ b
+pub one_expr : (scope : Scope) (a b : Expr) (tokens : List Token) → IsExpr a scope expression
+    → IsExpr b scope expression → Match tokens (spell a) → Match tokens (spell b) → a ≡ b
 one_expr scope a b tokens one two spelled also =
     let k = max (height a) (height b) in
     let read = (parsers_full k).expr scope expression in
-    same_found ((parsers k).expr scope expression tokens) a b [] (read a tokens [] (omega arith) one (omega arith) (ends expression) (match_takes tokens (spell a) spelled)) (read b tokens [] (omega arith) two (omega arith) (ends expression) (match_takes tokens (spell b) also))
+    same_found ((parsers k).expr scope expression tokens) a b []
+    (read a tokens [] (omega arith) one (omega arith) (ends expression) (match_takes tokens (spell a) spelled))
+    (read b tokens [] (omega arith) two (omega arith) (ends expression) (match_takes tokens (spell b) also))
 
-pub one_type_name : (scope : Scope) (a b : TypeName) (tokens : List Token) → IsTypeName a scope → IsTypeName b scope → Match tokens (spell_type_name a) → Match tokens (spell_type_name b) → a ≡ b
+pub one_type_name : (scope : Scope) (a b : TypeName) (tokens : List Token) → IsTypeName a scope → IsTypeName b scope
+    → Match tokens (spell_type_name a) → Match tokens (spell_type_name b) → a ≡ b
 one_type_name scope a b tokens one two spelled also =
     let k = max (type_name_height a) (type_name_height b) in
     let read = (parsers_full k).type_name scope in
-    same_found ((parsers k).type_name scope tokens) a b [] (read a tokens [] one (omega arith) refl refl (match_takes tokens (spell_type_name a) spelled)) (read b tokens [] two (omega arith) refl refl (match_takes tokens (spell_type_name b) also))
+    same_found ((parsers k).type_name scope tokens) a b []
+    (read a tokens [] one (omega arith) refl refl (match_takes tokens (spell_type_name a) spelled))
+    (read b tokens [] two (omega arith) refl refl (match_takes tokens (spell_type_name b) also))
 
 same_tree : (a b : Tree) → a.externals ≡ b.externals → a.end ≡ b.end → a ≡ b
-same_tree a b one two = ap (λ all. record { externals = all; end = a.end }) one ∙ ap (λ (pos : Pos). record { externals = b.externals; end = pos }) two
+same_tree a b one two = ap (λ all. record { externals = all; end = a.end }) one
+    ∙ ap (λ (pos : Pos). record { externals = b.externals; end = pos }) two
 
-pub one_tree : (a b : Tree) (tokens : List Token) → IsTree a → IsTree b → Match tokens (spell_tree a) → Match tokens (spell_tree b) → a.end ≡ b.end → a ≡ b
+pub one_tree : (a b : Tree) (tokens : List Token) → IsTree a → IsTree b → Match tokens (spell_tree a)
+    → Match tokens (spell_tree b) → a.end ≡ b.end → a ≡ b
 one_tree a b tokens one two spelled also end =
     let k = max (externals_height a.externals) (externals_height b.externals) in
     same_tree a b (same_found (externals k tokens) a.externals b.externals []

@@ -19,7 +19,9 @@ abbrev pub reason_of : Why → Refusal
 reason_of Unfit = Syntax
 reason_of TooDeep = Deep
 
-at_token : (stream : Stream) (why : Why) (token : Token) (after : List Token) → externals 254 stream.tokens ≡ Stopped why (token ∷ after) → Holds BeginsTree greatest_height stream.tokens why (token ∷ after)
+at_token : (stream : Stream) (why : Why) (token : Token) (after : List Token)
+    → externals 254 stream.tokens ≡ Stopped why (token ∷ after)
+    → Holds BeginsTree greatest_height stream.tokens why (token ∷ after)
     → RefusedAtToken stream (reason_of why) token.pos
 at_token stream Unfit token after h x = record {
   before = x.before;
@@ -45,7 +47,8 @@ at_token stream TooDeep token after h x =
       reason = (d.3.0, subst (λ t. BeginsTree d.3.0 (x.before ++ t ∷ [])) (sym same) d.3.1);
     }
 
-at_end : (stream : Stream) (why : Why) → externals 254 stream.tokens ≡ Stopped why [] → Holds BeginsTree greatest_height stream.tokens why [] → RefusedAt stream (reason_of why) stream.end
+at_end : (stream : Stream) (why : Why) → externals 254 stream.tokens ≡ Stopped why []
+    → Holds BeginsTree greatest_height stream.tokens why [] → RefusedAt stream (reason_of why) stream.end
 at_end stream TooDeep h x = (let d = x.deep refl in absurd (let e = d.2 in cc))
 at_end stream Unfit h x = inr (record {
   place = refl;
@@ -54,13 +57,17 @@ at_end stream Unfit h x = inr (record {
   reason = refl;
 })
 
-pub refused_at : (stream : Stream) (why : Why) (rest : List Token) → externals 254 stream.tokens ≡ Stopped why rest → RefusedAt stream (reason_of why) (stopped_at stream rest)
+pub refused_at : (stream : Stream) (why : Why) (rest : List Token) → externals 254 stream.tokens ≡ Stopped why rest
+    → RefusedAt stream (reason_of why) (stopped_at stream rest)
 refused_at stream why [] h = at_end stream why h (externals_viable 254 stream.tokens [] why h)
-refused_at stream why (token ∷ after) h = inl (at_token stream why token after h (externals_viable 254 stream.tokens (token ∷ after) why h))
+refused_at stream why (token ∷ after) h =
+    inl (at_token stream why token after h (externals_viable 254 stream.tokens (token ∷ after) why h))
 
-answered : (stream : Stream) (got : Outcome (List External)) → externals 254 stream.tokens ≡ got → ((tree : Tree) × SpelledBy stream tree) ⊎ ((why : Refusal) × (pos : Pos) × RefusedAt stream why pos)
+answered : (stream : Stream) (got : Outcome (List External)) → externals 254 stream.tokens ≡ got
+    → ((tree : Tree) × SpelledBy stream tree) ⊎ ((why : Refusal) × (pos : Pos) × RefusedAt stream why pos)
 answered stream (Found all rest) h = inl (record { externals = all; end = stream.end }, spelled_by stream all rest h)
 answered stream (Stopped why rest) h = inr (reason_of why, stopped_at stream rest, refused_at stream why rest h)
 
-pub each_answered : (stream : Stream) → ((tree : Tree) × SpelledBy stream tree) ⊎ ((why : Refusal) × (pos : Pos) × RefusedAt stream why pos)
+pub each_answered : (stream : Stream) → ((tree : Tree) × SpelledBy stream tree)
+    ⊎ ((why : Refusal) × (pos : Pos) × RefusedAt stream why pos)
 each_answered stream = answered stream (externals 254 stream.tokens) refl

@@ -11,7 +11,8 @@ use Rattle.c_lexer.specs.declared.token.Body.TheVariants as lexeme
 use Rattle.c_lexer.specs.declared.word.Word.{Word}
 use Rattle.c_lexer.specs.declared.word.Word.TheVariants as w
 use Rattle.c_syntax.specs.Operators.{prefix_token, infix_token, storage_word, qualifier_word, basic_word}
-use Rattle.c_reading.specs.ReadToken.{is_mark, is_word, is_literal, name_of, prefix_of, infix_of, storage_of, qualifier_of, basic_of}
+use Rattle.c_reading.specs.ReadToken.{is_mark, is_word, is_literal, name_of, prefix_of, infix_of, storage_of}
+use Rattle.c_reading.specs.ReadToken.{qualifier_of, basic_of}
 
 pub mark_again : (mark : Punct) → lookup marks (mark_text mark) ≡ Some mark
 mark_again p.OpenBracket = refl
@@ -113,7 +114,8 @@ is_word_is word (Some (lexeme.Word next)) h =
     ap (λ w. Some (lexeme.Word w)) (one_word next word ((bytes_eq-Decides (word_text next) (word_text word)).0 h))
 is_word_is word _ h = absurd (cc (h))
 
-pub is_literal_width : (wide : Bool) (units : List ℤ) (other : Bool) → is_literal wide (Some (lexeme.Literal units other)) ≡ true → other ≡ wide
+pub is_literal_width : (wide : Bool) (units : List ℤ) (other : Bool)
+    → is_literal wide (Some (lexeme.Literal units other)) ≡ true → other ≡ wide
 is_literal_width true units other h = h
 is_literal_width false units true h = absurd (cc (h))
 is_literal_width false units false h = refl
@@ -125,7 +127,8 @@ abbrev pub IsToken : {A : Type 0} → (A → Body) → Option Body → Option A 
 IsToken token o None = Unit {0}
 IsToken token o (Some a) = o ≡ Some (token a)
 
-pub token_is : {A : Type 0} (token : A → Body) (o : Option Body) (found : Option A) (a : A) → IsToken token o found → found ≡ Some a → o ≡ Some (token a)
+pub token_is : {A : Type 0} (token : A → Body) (o : Option Body) (found : Option A) (a : A) → IsToken token o found
+    → found ≡ Some a → o ≡ Some (token a)
 token_is token o found a is same = subst (IsToken token o) same is
 
 pub name_is : (o : Option Body) → IsToken lexeme.Name o (name_of o)

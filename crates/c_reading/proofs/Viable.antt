@@ -1,4 +1,5 @@
--- Where reading stops, some tree begins with the tokens before; where that was too deep, a higher one begins with the next too; class by class.
+-- Where reading stops, some tree begins with the tokens before; where that was too deep, a higher one begins with the
+-- next too; class by class.
 pub mod Law
 pub mod Contexts
 pub mod Completions

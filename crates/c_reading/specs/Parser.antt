@@ -88,7 +88,8 @@ module _ {S A : Type 0} (goes : S → Option Body → Bool) (step : S → Parser
   unfoldable pub many : S → Parser (List A)
   many s = λ ts. go (suc (length ts)) s ts
 
--- One node around another, as long as the next token goes on; each adds to the height, so the number is the height left.
+-- One node around another, as long as the next token goes on; each adds to the height, so the number is the height
+-- left.
 module _ {A : Type 0} (goes : A → Option Body → Bool) (fits : A → Bool) (wrap : A → Parser A) where
   unfoldable pub climb : ℕ → A → Parser A
   climb zero left = peek (λ o. choose (goes left o) (fail TooDeep) (pure left))
@@ -113,7 +114,8 @@ pub record Listing (S : Type 0) : Type 0 where
 
 -- One or more, with a comma between each two, each by the state that the ones before it left. Behind a comma the list
 -- may have an ending in place of one more.
-module _ {S A : Type 0} (is_comma : Option Body → Bool) (ends : Option Body → Bool) (ending : Parser (Unit {0})) (one : S → Parser A) (next : S → A → S) where
+module _ {S A : Type 0} (is_comma : Option Body → Bool) (ends : Option Body
+    → Bool) (ending : Parser (Unit {0})) (one : S → Parser A) (next : S → A → S) where
   abbrev pub goes_listing : Listing S → Option Body → Bool
   goes_listing l o = not l.over && is_comma o
 

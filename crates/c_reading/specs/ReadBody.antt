@@ -1,5 +1,6 @@
 -- How initializers, declarations, statements and the unit are read.
-use Rattle.std.specs.Prelude.{ℕ, zero, suc, nat_le, Bool, true, false, ◌&&◌, ◌||◌, not, List, [], ◌∷◌, ◌++◌, Option, Some, None, is_some}
+use Rattle.std.specs.Prelude.{ℕ, zero, suc, nat_le, Bool, true, false, ◌&&◌, ◌||◌, not, List, [], ◌∷◌, ◌++◌, Option}
+use Rattle.std.specs.Prelude.{Some, None, is_some}
 use Rattle.critical_table.specs.declared.pos.Pos.{Pos}
 use Rattle.c_lexer.specs.declared.punct.Punct.TheVariants as p
 use Rattle.c_lexer.specs.declared.token.Body.{Body}
@@ -7,15 +8,19 @@ use Rattle.c_lexer.specs.declared.token.Body.TheVariants as lexeme
 use Rattle.c_lexer.specs.declared.word.Word.TheVariants as w
 use Rattle.c_reading.specs.declared.declarator_form.DeclaratorForm.TheVariants as form
 use Rattle.c_syntax.specs.Levels.{expression, assignment, conditional}
-use Rattle.c_reading.specs.Parser.{Parser, Unfit, TooDeep, ◌>>=◌, pure, fail, peek, here, skip, choose, deeper, expect, many, comma_list, more_listed, ones}
+use Rattle.c_reading.specs.Parser.{Parser, Unfit, TooDeep, ◌>>=◌, pure, fail, peek, here, skip, choose, deeper}
+use Rattle.c_reading.specs.Parser.{expect, many, comma_list, more_listed, ones}
 use Rattle.c_reading.specs.ReadToken.{is_mark, is_word, name_of, begins_type}
 use Rattle.c_reading.specs.ReadExpr.{expr_lower, begins_expr, pieces}
 use Rattle.c_reading.specs.ReadSpecifier.{parsers}
-use Rattle.c_syntax.specs.Scopes.{Scope, predeclared, names_types, own_name, declared_if, expr_adds, specifiers_add, declarator_adds}
-use Rattle.c_syntax.specs.ScopesUnit.{item_adds, init_adds, optional_adds, for_init_adds, block_item_adds, switch_item_adds, own_parameters, body_scope, external_adds}
+use Rattle.c_syntax.specs.Scopes.{Scope, predeclared, names_types, own_name, declared_if, expr_adds, specifiers_add}
+use Rattle.c_syntax.specs.Scopes.{declarator_adds}
+use Rattle.c_syntax.specs.ScopesUnit.{item_adds, init_adds, optional_adds, for_init_adds, block_item_adds}
+use Rattle.c_syntax.specs.ScopesUnit.{switch_item_adds, own_parameters, body_scope, external_adds}
 use Rattle.c_syntax.specs.Tree.{Expr, Specifiers, Declarator}
 use Rattle.c_syntax.specs.TreeUnit as unit
-use Rattle.c_syntax.specs.TreeUnit.{Initializer, Item, Items, InitDeclarator, Declaration, Assert, ForInit, Statement, BlockItem, BlockItems, SwitchItem, SwitchItems, External}
+use Rattle.c_syntax.specs.TreeUnit.{Initializer, Item, Items, InitDeclarator, Declaration, Assert, ForInit, Statement}
+use Rattle.c_syntax.specs.TreeUnit.{BlockItem, BlockItems, SwitchItem, SwitchItems, External}
 use Rattle.c_syntax.specs.ViewUnit.{items, switch_items, block_items}
 
 -- ---- initializers (6.7.9)
@@ -39,7 +44,8 @@ module _ (k : ℕ) (low : Initializers) where
   listed_items = comma_list (is_mark p.Comma) (is_mark p.CloseBrace) (pure tt) low.item (λ s one. s ++ item_adds one)
 
   unfoldable pub braces : Scope → Pos → Parser Initializer
-  braces scope pos = listed_items scope >>= λ all. expect (is_mark p.CloseBrace) >>= λ _. pure (unit.Braces pos (items all.0) all.1)
+  braces scope pos = listed_items scope >>= λ all. expect (is_mark p.CloseBrace)
+      >>= λ _. pure (unit.Braces pos (items all.0) all.1)
 
   -- an item has height 2 at least, so braces have height 3
   unfoldable pub initializer_at : Scope → Parser Initializer
@@ -49,7 +55,8 @@ module _ (k : ℕ) (low : Initializers) where
 
   abbrev pub member_named : Scope → Pos → Option (List ℕ) → Parser Item
   member_named scope pos None = fail Unfit
-  member_named scope pos (Some x) = skip (expect (is_mark p.Assign) >>= λ _. low.initializer scope >>= λ value. pure (unit.ForMember pos x value))
+  member_named scope pos (Some x) =
+      skip (expect (is_mark p.Assign) >>= λ _. low.initializer scope >>= λ value. pure (unit.ForMember pos x value))
 
   -- behind the dot
   unfoldable pub member_item : Scope → Pos → Parser Item
@@ -58,7 +65,8 @@ module _ (k : ℕ) (low : Initializers) where
   -- behind the bracket
   unfoldable pub index_item : Scope → Pos → Parser Item
   index_item scope pos =
-      (parsers k).expr scope conditional >>= λ index. expect (is_mark p.CloseBracket) >>= λ _. expect (is_mark p.Assign) >>= λ _.
+      (parsers k).expr scope conditional >>= λ index. expect (is_mark p.CloseBracket)
+      >>= λ _. expect (is_mark p.Assign) >>= λ _.
       low.initializer (scope ++ expr_adds index) >>= λ value. pure (unit.ForIndex pos index value)
 
   unfoldable pub item_at : Scope → Parser Item
@@ -82,12 +90,15 @@ initializers (suc k) = record { initializer = initializer_at k (initializers k);
 module _ (k : ℕ) where
   -- what follows a declarator
   abbrev pub init_by : Scope → Declarator → Bool → Parser InitDeclarator
-  init_by scope one true = skip ((initializers k).initializer scope >>= λ value. pure (record { declarator = one; initializer = Some value }))
+  init_by scope one true =
+      skip ((initializers k).initializer scope
+      >>= λ value. pure (record { declarator = one; initializer = Some value }))
   init_by scope one false = pure (record { declarator = one; initializer = None })
 
   -- in the scope behind the declarator, which its name is not yet in
   abbrev pub init_in : Bool → Scope → Declarator → Parser InitDeclarator
-  init_in names_type scope one = peek (λ o. init_by (scope ++ declared_if names_type (own_name one)) one (is_mark p.Assign o))
+  init_in names_type scope one =
+      peek (λ o. init_by (scope ++ declared_if names_type (own_name one)) one (is_mark p.Assign o))
 
   unfoldable pub init_on : Bool → Scope → Declarator → Parser InitDeclarator
   init_on names_type scope one = init_in names_type (scope ++ declarator_adds one) one
@@ -96,11 +107,14 @@ module _ (k : ℕ) where
   init_declarator names_type scope = (parsers k).declarator form.Named scope >>= init_on names_type scope
 
   abbrev pub init_declarator_adds : Bool → InitDeclarator → Scope
-  init_declarator_adds names_type one = declarator_adds one.declarator ++ declared_if names_type (own_name one.declarator) ++ init_adds one.initializer
+  init_declarator_adds names_type one =
+      declarator_adds one.declarator ++ declared_if names_type (own_name one.declarator) ++ init_adds one.initializer
 
   -- the declarators behind a first one
   unfoldable pub more_declarators : Bool → Scope → Parser (List (Option InitDeclarator))
-  more_declarators names_type = more_listed (is_mark p.Comma) (λ o. false) (pure tt) (init_declarator names_type) (λ s one. s ++ init_declarator_adds names_type one)
+  more_declarators names_type =
+      more_listed (is_mark p.Comma) (λ o. false) (pure tt) (init_declarator names_type)
+      (λ s one. s ++ init_declarator_adds names_type one)
 
   -- and the first one before them
   abbrev pub all_declarators : Bool → Scope → InitDeclarator → Parser (List InitDeclarator)
@@ -115,7 +129,8 @@ module _ (k : ℕ) where
   -- behind the first declarator
   unfoldable pub declared_on : Scope → Specifiers → Declarator → Parser Declaration
   declared_on scope all one =
-      init_on (names_types all) scope one >>= λ first. declared_in (scope ++ init_declarator_adds (names_types all) first) all first
+      init_on (names_types all) scope one
+      >>= λ first. declared_in (scope ++ init_declarator_adds (names_types all) first) all first
 
   abbrev pub declaration_by : Scope → Specifiers → Bool → Parser Declaration
   declaration_by scope all true = skip (pure (record { specifiers = all; declarators = [] }))
@@ -141,7 +156,8 @@ module _ (k : ℕ) where
   -- behind the word
   unfoldable pub assert_on : Scope → Pos → Parser Assert
   assert_on scope pos =
-      expect (is_mark p.OpenParen) >>= λ _. (parsers k).expr scope conditional >>= λ test. expect (is_mark p.Comma) >>= λ _. message pos test
+      expect (is_mark p.OpenParen) >>= λ _. (parsers k).expr scope conditional >>= λ test. expect (is_mark p.Comma)
+      >>= λ _. message pos test
 
   unfoldable pub assert_at : Scope → Parser Assert
   assert_at scope = here (λ pos. deeper k (skip (assert_on scope pos)))
@@ -166,7 +182,8 @@ begins_statement_word (Some (lexeme.Word w.Return)) = true
 begins_statement_word _ = false
 
 abbrev pub begins_statement : Scope → Option Body → Bool
-begins_statement scope o = begins_expr scope o || begins_statement_word o || is_mark p.OpenBrace o || is_mark p.Semicolon o
+begins_statement scope o = begins_expr scope o || begins_statement_word o || is_mark p.OpenBrace o
+    || is_mark p.Semicolon o
 
 abbrev pub begins_block_item : Scope → Option Body → Bool
 begins_block_item scope o = begins_statement scope o || begins_type scope o || is_word w.StaticAssert o
@@ -207,27 +224,33 @@ module _ (k : ℕ) (low : Statements) where
 
   -- up to this mark, an expression or none
   unfoldable pub optional : (Option Body → Bool) → Scope → Parser (Option Expr)
-  optional ends scope = peek (λ o. choose (ends o) (skip (pure None)) (an_expr scope >>= λ e. expect ends >>= λ _. pure (Some e)))
+  optional ends scope =
+      peek (λ o. choose (ends o) (skip (pure None)) (an_expr scope >>= λ e. expect ends >>= λ _. pure (Some e)))
 
   -- behind the word
   unfoldable pub controlling : Scope → Parser Expr
-  controlling scope = expect (is_mark p.OpenParen) >>= λ _. (parsers k).expr scope expression >>= λ test. expect (is_mark p.CloseParen) >>= λ _. pure test
+  controlling scope = expect (is_mark p.OpenParen) >>= λ _. (parsers k).expr scope expression
+      >>= λ test. expect (is_mark p.CloseParen) >>= λ _. pure test
 
   abbrev pub else_by : Scope → Pos → Expr → Statement → Bool → Parser Statement
   else_by scope pos test then true = skip (low.statement scope >>= λ else. pure (unit.IfElse pos test then else))
   else_by scope pos test then false = pure (unit.If pos test then)
 
   unfoldable pub if_on : Scope → Pos → Parser Statement
-  if_on scope pos = controlling scope >>= λ test. low.statement (scope ++ expr_adds test) >>= λ then. peek (λ o. else_by (scope ++ expr_adds test) pos test then (is_word w.Else o))
+  if_on scope pos = controlling scope >>= λ test. low.statement (scope ++ expr_adds test)
+      >>= λ then. peek (λ o. else_by (scope ++ expr_adds test) pos test then (is_word w.Else o))
 
   unfoldable pub switch_on : Scope → Pos → Parser Statement
-  switch_on scope pos = controlling scope >>= λ test. expect (is_mark p.OpenBrace) >>= λ _. switch_with low.switch_item (scope ++ expr_adds test) >>= λ all. pure (unit.Switch pos test all)
+  switch_on scope pos = controlling scope >>= λ test. expect (is_mark p.OpenBrace)
+      >>= λ _. switch_with low.switch_item (scope ++ expr_adds test) >>= λ all. pure (unit.Switch pos test all)
 
   unfoldable pub while_on : Scope → Pos → Parser Statement
-  while_on scope pos = controlling scope >>= λ test. low.statement (scope ++ expr_adds test) >>= λ body. pure (unit.While pos test body)
+  while_on scope pos = controlling scope >>= λ test. low.statement (scope ++ expr_adds test)
+      >>= λ body. pure (unit.While pos test body)
 
   unfoldable pub do_on : Scope → Pos → Parser Statement
-  do_on scope pos = low.statement scope >>= λ body. expect (is_word w.While) >>= λ _. controlling scope >>= λ test. expect (is_mark p.Semicolon) >>= λ _. pure (unit.Do pos body test)
+  do_on scope pos = low.statement scope >>= λ body. expect (is_word w.While) >>= λ _. controlling scope
+      >>= λ test. expect (is_mark p.Semicolon) >>= λ _. pure (unit.Do pos body test)
 
   abbrev pub for_init_by : Scope → Bool → Parser ForInit
   for_init_by scope true = declaration_lower k scope >>= λ one. pure (unit.WithDeclaration one)
@@ -239,11 +262,14 @@ module _ (k : ℕ) (low : Statements) where
   -- behind how a `for` begins
   abbrev pub for_begun : Scope → Pos → ForInit → Parser Statement
   for_begun scope pos init =
-      optional (is_mark p.Semicolon) scope >>= λ test. optional (is_mark p.CloseParen) (scope ++ optional_adds test) >>= λ step.
-      low.statement (scope ++ optional_adds test ++ optional_adds step) >>= λ body. pure (unit.For pos init test step body)
+      optional (is_mark p.Semicolon) scope >>= λ test. optional (is_mark p.CloseParen) (scope ++ optional_adds test)
+      >>= λ step.
+      low.statement (scope ++ optional_adds test ++ optional_adds step)
+      >>= λ body. pure (unit.For pos init test step body)
 
   unfoldable pub for_on : Scope → Pos → Parser Statement
-  for_on scope pos = expect (is_mark p.OpenParen) >>= λ _. for_init scope >>= λ init. for_begun (scope ++ for_init_adds init) pos init
+  for_on scope pos = expect (is_mark p.OpenParen) >>= λ _. for_init scope
+      >>= λ init. for_begun (scope ++ for_init_adds init) pos init
 
   abbrev pub compound : Scope → Parser Statement
   compound scope = block_with low.block_item scope >>= λ all. pure (unit.Block all)
@@ -276,7 +302,8 @@ module _ (k : ℕ) (low : Statements) where
       (statement_at scope >>= λ one. pure (unit.Executes one))))
 
   unfoldable pub case_on : Scope → Pos → Parser SwitchItem
-  case_on scope pos = (parsers k).expr scope conditional >>= λ value. expect (is_mark p.Colon) >>= λ _. pure (unit.Case pos value)
+  case_on scope pos = (parsers k).expr scope conditional >>= λ value. expect (is_mark p.Colon)
+      >>= λ _. pure (unit.Case pos value)
 
   unfoldable pub switch_item_at : Scope → Parser SwitchItem
   switch_item_at scope = here (λ pos. peek (λ o.
@@ -293,7 +320,13 @@ lowest_statements = record {
 
 abbrev pub statements : ℕ → Statements
 statements zero = lowest_statements
-statements (suc k) = record { statement = statement_at k (statements k); block_item = block_item_at k (statements k); switch_item = switch_item_at k (statements k) }
+statements (suc k) =
+    record {
+      statement = statement_at k (statements k);
+      block_item = block_item_at k (statements k);
+      switch_item =
+          switch_item_at k (statements k);
+    }
 
 -- ---- the unit (6.9)
 
@@ -317,14 +350,16 @@ module _ (k : ℕ) where
 
   abbrev pub external_declared : Scope → Specifiers → Declarator → Bool → Parser External
   external_declared scope all one true = skip (function_in (function_scope scope all one) all one)
-  external_declared scope all one false = declared_on k (scope ++ specifiers_add all) all one >>= λ found. pure (unit.Declaring found)
+  external_declared scope all one false = declared_on k (scope ++ specifiers_add all) all one
+      >>= λ found. pure (unit.Declaring found)
 
   unfoldable pub external_on : Scope → Specifiers → Declarator → Parser External
   external_on scope all one = peek (λ o. external_declared scope all one (is_body one o))
 
   abbrev pub external_by : Scope → Specifiers → Bool → Parser External
   external_by scope all true = skip (pure (unit.Declaring (record { specifiers = all; declarators = [] })))
-  external_by scope all false = (parsers k).declarator form.Named (scope ++ specifiers_add all) >>= external_on scope all
+  external_by scope all false = (parsers k).declarator form.Named (scope ++ specifiers_add all)
+      >>= external_on scope all
 
   unfoldable pub external_at : Scope → Parser External
   external_at scope = peek (λ o.
@@ -334,4 +369,5 @@ module _ (k : ℕ) where
 -- one external declaration after another, up to the end
 unfoldable pub externals : ℕ → Parser (List External)
 externals k = external_at k predeclared >>= λ first.
-    many (λ s o. is_some o) (external_at k) (λ s one. s ++ external_adds one) (predeclared ++ external_adds first) >>= λ rest. pure (first ∷ rest)
+    many (λ s o. is_some o) (external_at k) (λ s one. s ++ external_adds one) (predeclared ++ external_adds first)
+    >>= λ rest. pure (first ∷ rest)

@@ -9,7 +9,8 @@ use Rattle.c_reading.specs.declared.declarator_form.DeclaratorForm.TheVariants a
 use Rattle.c_syntax.specs.declared.specifier.Qualifier.{Qualifier}
 use Rattle.c_syntax.specs.Height.{declarator_height}
 use Rattle.c_syntax.specs.Levels.{conditional}
-use Rattle.c_reading.specs.Parser.{Parser, Unfit, TooDeep, ◌>>=◌, pure, fail, peek, here, skip, choose, deeper, expect, many, climb, comma_list}
+use Rattle.c_reading.specs.Parser.{Parser, Unfit, TooDeep, ◌>>=◌, pure, fail, peek, here, skip, choose, deeper}
+use Rattle.c_reading.specs.Parser.{expect, many, climb, comma_list}
 use Rattle.c_reading.specs.ReadToken.{is_mark, begins_type, qualifier_of}
 use Rattle.c_reading.specs.ReadExpr.{Parsers, expr_lower}
 use Rattle.c_syntax.specs.Scopes.{Scope, specifiers_add, declarator_adds, parameter_adds}
@@ -57,12 +58,15 @@ module _ (k : ℕ) (low : Parsers) where
   -- ---- parameters (6.7.6.3)
 
   unfoldable pub listed_parameters : Scope → Parser (List Parameter × Bool)
-  listed_parameters = comma_list (is_mark p.Comma) (is_mark p.Ellipsis) (skip (pure tt)) low.parameter (λ s parameter. s ++ parameter_adds parameter)
+  listed_parameters =
+      comma_list (is_mark p.Comma) (is_mark p.Ellipsis) (skip (pure tt)) low.parameter
+      (λ s parameter. s ++ parameter_adds parameter)
 
   -- behind the opening parenthesis
   abbrev pub parameters_by : Scope → Option Body → Parser (Parameters × Bool)
   parameters_by scope (Some (lexeme.Mark p.CloseParen)) = skip (pure (tree.NoParameter, false))
-  parameters_by scope _ = listed_parameters scope >>= λ all. expect (is_mark p.CloseParen) >>= λ _. pure (parameters all.0, all.1)
+  parameters_by scope _ = listed_parameters scope >>= λ all. expect (is_mark p.CloseParen)
+      >>= λ _. pure (parameters all.0, all.1)
 
   unfoldable pub parameters_at : Scope → Parser (Parameters × Bool)
   parameters_at scope = peek (parameters_by scope)
@@ -112,7 +116,8 @@ module _ (k : ℕ) (low : Parsers) where
 
   -- behind one, where the identifier may be omitted
   unfoldable pub omitted_list : Scope → Parser Declarator
-  omitted_list scope = listed_parameters scope >>= λ all. expect (is_mark p.CloseParen) >>= λ _. suffixes scope (tree.FunctionOf tree.Omitted (parameters all.0) all.1)
+  omitted_list scope = listed_parameters scope >>= λ all. expect (is_mark p.CloseParen)
+      >>= λ _. suffixes scope (tree.FunctionOf tree.Omitted (parameters all.0) all.1)
 
   -- A parameter list of an omitted identifier, or a declarator in parentheses: in a parameter a name that could be a
   -- typedef name is one (6.7.6.3p11).
@@ -134,7 +139,8 @@ module _ (k : ℕ) (low : Parsers) where
   room form.Parameter p = p
 
   unfoldable pub pointer : DeclaratorForm → Scope → Parser Declarator
-  pointer shape scope = qualifiers scope >>= λ words. low.declarator shape scope >>= λ inner. pure (tree.PointerTo words inner)
+  pointer shape scope = qualifiers scope >>= λ words. low.declarator shape scope
+      >>= λ inner. pure (tree.PointerTo words inner)
 
   abbrev pub name_by : DeclaratorForm → Scope → Pos → List ℕ → Parser Declarator
   name_by form.Named scope pos x = skip (suffixes scope (tree.Name pos x))
@@ -164,20 +170,25 @@ module _ (k : ℕ) (low : Parsers) where
 
   unfoldable pub type_name_at : Scope → Parser TypeName
   type_name_at scope =
-      low.specifiers scope >>= λ all. low.declarator form.Abstract (scope ++ specifiers_add all) >>= λ one. pure (tree.NamedType all one)
+      low.specifiers scope >>= λ all. low.declarator form.Abstract (scope ++ specifiers_add all)
+      >>= λ one. pure (tree.NamedType all one)
 
   unfoldable pub parameter_at : Scope → Parser Parameter
   parameter_at scope =
-      low.specifiers scope >>= λ all. low.declarator form.Parameter (scope ++ specifiers_add all) >>= λ one. pure (tree.Param all one)
+      low.specifiers scope >>= λ all. low.declarator form.Parameter (scope ++ specifiers_add all)
+      >>= λ one. pure (tree.Param all one)
 
   -- declarators have no ending
   unfoldable pub listed_declarators : Scope → Parser (List Declarator × Bool)
-  listed_declarators = comma_list (is_mark p.Comma) (λ o. false) (pure tt) (low.declarator form.Named) (λ s one. s ++ declarator_adds one)
+  listed_declarators =
+      comma_list (is_mark p.Comma) (λ o. false) (pure tt) (low.declarator form.Named)
+      (λ s one. s ++ declarator_adds one)
 
   -- in the scope behind the specifiers
   abbrev pub member_in : Scope → Specifiers → Parser MemberDeclaration
   member_in scope all =
-      listed_declarators scope >>= λ found. expect (is_mark p.Semicolon) >>= λ _. pure (tree.Declares all (declarators found.0))
+      listed_declarators scope >>= λ found. expect (is_mark p.Semicolon)
+      >>= λ _. pure (tree.Declares all (declarators found.0))
 
   abbrev pub member_by : Scope → Specifiers → Option Body → Parser MemberDeclaration
   member_by scope all (Some (lexeme.Mark p.Semicolon)) = skip (pure (tree.Declares all tree.NoDeclarator))

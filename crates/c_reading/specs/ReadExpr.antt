@@ -1,5 +1,6 @@
 -- How expressions are read: trees of one height more than those that the lower parsers read.
-use Rattle.std.specs.Prelude.{ℕ, ℤ, nat_le, Bool, true, false, ◌&&◌, ◌||◌, not, List, ◌∷◌, ◌++◌, Option, Some, None, is_some}
+use Rattle.std.specs.Prelude.{ℕ, ℤ, nat_le, Bool, true, false, ◌&&◌, ◌||◌, not, List, ◌∷◌, ◌++◌, Option, Some, None}
+use Rattle.std.specs.Prelude.{is_some}
 use Rattle.critical_table.specs.declared.pos.Pos.{Pos}
 use Rattle.c_lexer.specs.declared.punct.Punct.TheVariants as p
 use Rattle.c_lexer.specs.declared.token.Body.{Body}
@@ -17,8 +18,10 @@ use Rattle.c_syntax.specs.declared.operator.Postfix.TheVariants as postfix
 use Rattle.c_syntax.specs.declared.operator.Prefix.{Prefix}
 use Rattle.c_syntax.specs.declared.operator.Prefix.TheVariants as prefix
 use Rattle.c_syntax.specs.Height.{height}
-use Rattle.c_syntax.specs.Levels.{expression, assignment, conditional, logical_or, cast, unary, postfix as postfix_level, infix_level, left_level, right_level, operand_level}
-use Rattle.c_reading.specs.Parser.{Parser, Unfit, ◌>>=◌, pure, fail, peek, here, skip, choose, deeper, expect, many, climb, comma_list}
+use Rattle.c_syntax.specs.Levels.{expression, assignment, conditional, logical_or, cast, unary}
+use Rattle.c_syntax.specs.Levels.{postfix as postfix_level, infix_level, left_level, right_level, operand_level}
+use Rattle.c_reading.specs.Parser.{Parser, Unfit, ◌>>=◌, pure, fail, peek, here, skip, choose, deeper, expect, many}
+use Rattle.c_reading.specs.Parser.{climb, comma_list}
 use Rattle.c_reading.specs.ReadToken.{is_mark, is_word, name_of, begins_type, is_literal, prefix_of, infix_of}
 use Rattle.c_syntax.specs.Scopes.{Scope, is_type, expr_adds, type_name_adds}
 use Rattle.c_syntax.specs.Tree as tree
@@ -41,8 +44,10 @@ begins_expr scope (Some (lexeme.Number number)) = true
 begins_expr scope (Some (lexeme.Character value wide)) = true
 begins_expr scope (Some (lexeme.Literal units wide)) = true
 begins_expr scope (Some (lexeme.Name x)) = not (is_type scope x)
-begins_expr scope (Some (lexeme.Word next)) = is_word w.Sizeof (Some (lexeme.Word next)) || is_word w.Alignof (Some (lexeme.Word next))
-begins_expr scope (Some (lexeme.Mark next)) = is_mark p.OpenParen (Some (lexeme.Mark next)) || is_some (prefix_of (Some (lexeme.Mark next)))
+begins_expr scope (Some (lexeme.Word next)) = is_word w.Sizeof (Some (lexeme.Word next))
+    || is_word w.Alignof (Some (lexeme.Word next))
+begins_expr scope (Some (lexeme.Mark next)) = is_mark p.OpenParen (Some (lexeme.Mark next))
+    || is_some (prefix_of (Some (lexeme.Mark next)))
 begins_expr scope None = false
 
 -- an expression, where the token may come before any height is left
@@ -92,7 +97,8 @@ goes_postfix left _ = false
 
 -- the operator may take this tree on its left, and stand where the level is wanted
 abbrev pub goes_between : ℕ → Expr → Option Infix → Bool → Bool
-goes_between level left (Some operator) question = nat_le level (infix_level operator) && nat_le (left_level operator) (own_level left)
+goes_between level left (Some operator) question =
+    nat_le level (infix_level operator) && nat_le (left_level operator) (own_level left)
 goes_between level left None question = question && nat_le level conditional && nat_le logical_or (own_level left)
 
 abbrev pub goes_infix : ℕ → Expr → Option Body → Bool
@@ -101,7 +107,8 @@ goes_infix level left o = goes_between level left (infix_of o) (is_mark p.Questi
 -- ---- postfix operators that take no expression
 
 unfoldable pub access_name : Access → Expr → Parser Expr
-access_name operator left = here (λ pos. skip (peek (λ o. with_name (name_of o) (λ x. pure (tree.Member pos operator left x)))))
+access_name operator left =
+    here (λ pos. skip (peek (λ o. with_name (name_of o) (λ x. pure (tree.Member pos operator left x)))))
 
 unfoldable pub step_by_one : Postfix → Expr → Parser Expr
 step_by_one operator left = here (λ pos. skip (pure (tree.PostfixOp pos operator left)))
@@ -111,7 +118,8 @@ module _ (k : ℕ) (low : Parsers) where
 
   -- arguments have no ending
   unfoldable pub listed_arguments : Scope → Parser (List Expr × Bool)
-  listed_arguments = comma_list (is_mark p.Comma) (λ o. false) (pure tt) (λ s. low.expr s assignment) (λ s e. s ++ expr_adds e)
+  listed_arguments =
+      comma_list (is_mark p.Comma) (λ o. false) (pure tt) (λ s. low.expr s assignment) (λ s e. s ++ expr_adds e)
 
   abbrev pub arguments_by : Scope → Option Body → Parser Exprs
   arguments_by scope (Some (lexeme.Mark p.CloseParen)) = skip (pure tree.NoExpr)
@@ -167,7 +175,8 @@ module _ (k : ℕ) (low : Parsers) where
   -- behind an opening parenthesis: a cast, where one may stand, or an expression in parentheses
   unfoldable pub inside : Scope → ℕ → Pos → Parser Expr
   inside scope level pos =
-      peek (λ o. choose (begins_type scope o) (choose (nat_le level cast) (cast_on scope pos) (fail Unfit)) (paren_expr scope))
+      peek (λ o. choose (begins_type scope o) (choose (nat_le level cast) (cast_on scope pos) (fail Unfit))
+      (paren_expr scope))
 
   unfoldable pub type_measure : Scope → Measure → Pos → Parser Expr
   type_measure scope operator pos =
@@ -175,26 +184,35 @@ module _ (k : ℕ) (low : Parsers) where
 
   -- behind `sizeof` and an opening parenthesis
   unfoldable pub size_behind_paren : Scope → Pos → Parser Expr
-  size_behind_paren scope pos = peek (λ o. choose (begins_type scope o) (type_measure scope measure.SizeType pos) (low.paren_expr scope >>= λ operand. pure (tree.PrefixOp pos prefix.SizeExpr operand)))
+  size_behind_paren scope pos =
+      peek (λ o. choose (begins_type scope o) (type_measure scope measure.SizeType pos) (low.paren_expr scope
+      >>= λ operand. pure (tree.PrefixOp pos prefix.SizeExpr operand)))
 
   unfoldable pub size : Scope → Pos → Parser Expr
-  size scope pos = peek (λ o. choose (is_mark p.OpenParen o) (skip (size_behind_paren scope pos)) (low.expr scope unary >>= λ operand. pure (tree.PrefixOp pos prefix.SizeExpr operand)))
+  size scope pos =
+      peek (λ o. choose (is_mark p.OpenParen o) (skip (size_behind_paren scope pos)) (low.expr scope unary
+      >>= λ operand. pure (tree.PrefixOp pos prefix.SizeExpr operand)))
 
   unfoldable pub alignment : Scope → Pos → Parser Expr
   alignment scope pos = expect (is_mark p.OpenParen) >>= λ _. type_measure scope measure.AlignType pos
 
   unfoldable pub text : Scope → Pos → List ℤ → Bool → Parser Expr
-  text scope pos units wide = pieces wide >>= λ more. postfixes scope (tree.Text pos (record { pieces = units ∷ more; wide = wide }))
+  text scope pos units wide =
+      pieces wide >>= λ more. postfixes scope (tree.Text pos (record { pieces = units ∷ more; wide = wide }))
 
   unfoldable pub prefix_expr : Scope → Pos → Option Prefix → Parser Expr
   prefix_expr scope pos None = fail Unfit
-  prefix_expr scope pos (Some operator) = deeper k (skip (low.expr scope (operand_level operator) >>= λ operand. pure (tree.PrefixOp pos operator operand)))
+  prefix_expr scope pos (Some operator) =
+      deeper k (skip (low.expr scope (operand_level operator) >>= λ operand. pure (tree.PrefixOp pos operator operand)))
 
   abbrev pub unary_by : Scope → ℕ → Pos → Option Body → Parser Expr
-  unary_by scope level pos (Some (lexeme.Number number)) = skip (postfixes scope (tree.Const pos (constant.Number number)))
-  unary_by scope level pos (Some (lexeme.Character value wide)) = skip (postfixes scope (tree.Const pos (constant.Character value wide)))
+  unary_by scope level pos (Some (lexeme.Number number)) =
+      skip (postfixes scope (tree.Const pos (constant.Number number)))
+  unary_by scope level pos (Some (lexeme.Character value wide)) =
+      skip (postfixes scope (tree.Const pos (constant.Character value wide)))
   unary_by scope level pos (Some (lexeme.Literal units wide)) = skip (text scope pos units wide)
-  unary_by scope level pos (Some (lexeme.Name x)) = choose (is_type scope x) (fail Unfit) (skip (postfixes scope (tree.Id pos x)))
+  unary_by scope level pos (Some (lexeme.Name x)) =
+      choose (is_type scope x) (fail Unfit) (skip (postfixes scope (tree.Id pos x)))
   unary_by scope level pos (Some (lexeme.Word w.Sizeof)) = deeper k (skip (size scope pos))
   unary_by scope level pos (Some (lexeme.Word w.Alignof)) = deeper k (skip (alignment scope pos))
   unary_by scope level pos (Some (lexeme.Mark p.OpenParen)) = deeper k (skip (inside scope level pos))
@@ -207,7 +225,8 @@ module _ (k : ℕ) (low : Parsers) where
 
   -- in the scope behind the left operand
   abbrev pub between_in : Scope → Expr → Pos → Infix → Parser Expr
-  between_in scope left pos operator = low.expr scope (right_level operator) >>= λ right. pure (tree.InfixOp pos operator left right)
+  between_in scope left pos operator = low.expr scope (right_level operator)
+      >>= λ right. pure (tree.InfixOp pos operator left right)
 
   unfoldable pub between_on : Scope → Expr → Pos → Infix → Parser Expr
   between_on scope left pos operator = between_in (scope ++ expr_adds left) left pos operator

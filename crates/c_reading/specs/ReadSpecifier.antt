@@ -1,5 +1,6 @@
 -- How specifiers are read, and the parsers of every height.
-use Rattle.std.specs.Prelude.{ℕ, zero, suc, Bool, true, false, ◌||◌, ◌&&◌, not, List, [], ◌∷◌, ◌++◌, Option, Some, None, is_some}
+use Rattle.std.specs.Prelude.{ℕ, zero, suc, Bool, true, false, ◌||◌, ◌&&◌, not, List, [], ◌∷◌, ◌++◌, Option, Some}
+use Rattle.std.specs.Prelude.{None, is_some}
 use Rattle.critical_table.specs.declared.pos.Pos.{Pos}
 use Rattle.c_lexer.specs.declared.punct.Punct.TheVariants as p
 use Rattle.c_lexer.specs.declared.token.Body.{Body}
@@ -14,7 +15,8 @@ use Rattle.c_syntax.specs.declared.specifier.Qualifier.{Qualifier}
 use Rattle.c_syntax.specs.declared.specifier.Storage.{Storage}
 use Rattle.c_syntax.specs.declared.specifier.Tag.{Tag}
 use Rattle.c_syntax.specs.Levels.{conditional}
-use Rattle.c_reading.specs.Parser.{Parser, Unfit, TooDeep, ◌>>=◌, pure, fail, peek, here, skip, deeper, expect, many, comma_list}
+use Rattle.c_reading.specs.Parser.{Parser, Unfit, TooDeep, ◌>>=◌, pure, fail, peek, here, skip, deeper, expect, many}
+use Rattle.c_reading.specs.Parser.{comma_list}
 use Rattle.c_reading.specs.ReadToken.{is_mark, is_word, name_of, begins_type, storage_of, qualifier_of, basic_of}
 use Rattle.c_reading.specs.ReadExpr.{Parsers, paren_expr, expr_at}
 use Rattle.c_reading.specs.ReadDeclarator.{no_declarator, declarator_at, type_name_at, parameter_at, member_at}
@@ -48,7 +50,8 @@ begins_other scope _ = false
 -- the token is one more specifier
 abbrev pub goes_specifier : Specified → Option Body → Bool
 goes_specifier s o =
-    is_some (storage_of o) || is_some (qualifier_of o) || is_word w.Inline o || (is_some (basic_of o) && not (is_other s.type_seen)) || (begins_other s.scope o && is_nothing s.type_seen)
+    is_some (storage_of o) || is_some (qualifier_of o) || is_word w.Inline o
+    || (is_some (basic_of o) && not (is_other s.type_seen)) || (begins_other s.scope o && is_nothing s.type_seen)
 
 -- what has come with it
 abbrev pub type_seen_with : TypeSeen → Specifier → TypeSeen
@@ -89,7 +92,8 @@ module _ (k : ℕ) (low : Parsers) where
 
   -- one member at least
   abbrev pub all_members : Scope → Parser (List MemberDeclaration)
-  all_members scope = low.member scope >>= λ first. more_members (scope ++ member_adds first) >>= λ rest. pure (first ∷ rest)
+  all_members scope = low.member scope >>= λ first. more_members (scope ++ member_adds first)
+      >>= λ rest. pure (first ∷ rest)
 
   unfoldable pub compound_body : Scope → Pos → CompoundWord → Option Tag → Parser Specifier
   compound_body scope pos word tag =
@@ -104,8 +108,10 @@ module _ (k : ℕ) (low : Parsers) where
   compound_tag scope pos word tag = peek (λ o. compound_by scope pos word tag (is_mark p.OpenBrace o))
 
   abbrev pub compound_on : Scope → Pos → CompoundWord → Pos → Option Body → Parser Specifier
-  compound_on scope pos word place (Some (lexeme.Name x)) = skip (compound_tag scope pos word (record { pos = place; name = x }))
-  compound_on scope pos word place (Some (lexeme.Mark p.OpenBrace)) = deeper k (skip (compound_body scope pos word None))
+  compound_on scope pos word place (Some (lexeme.Name x)) =
+      skip (compound_tag scope pos word (record { pos = place; name = x }))
+  compound_on scope pos word place (Some (lexeme.Mark p.OpenBrace)) =
+      deeper k (skip (compound_body scope pos word None))
   compound_on scope pos word place _ = fail Unfit
 
   unfoldable pub compound : Scope → Pos → CompoundWord → Parser Specifier
@@ -114,7 +120,8 @@ module _ (k : ℕ) (low : Parsers) where
   -- ---- enumerations (6.7.2.2)
 
   abbrev pub value_by : Scope → Pos → List ℕ → Bool → Parser Enumerator
-  value_by scope pos x true = deeper k (skip (low.expr scope conditional >>= λ value. pure (tree.Enumerates pos x (tree.With value))))
+  value_by scope pos x true =
+      deeper k (skip (low.expr scope conditional >>= λ value. pure (tree.Enumerates pos x (tree.With value))))
   value_by scope pos x false = pure (tree.Enumerates pos x tree.Without)
 
   unfoldable pub enumerator_on : Scope → Pos → List ℕ → Parser Enumerator
@@ -128,11 +135,13 @@ module _ (k : ℕ) (low : Parsers) where
   enumerator scope = here (λ pos. peek (λ o. enumerator_by scope pos (name_of o)))
 
   unfoldable pub listed_enumerators : Scope → Parser (List Enumerator × Bool)
-  listed_enumerators = comma_list (is_mark p.Comma) (is_mark p.CloseBrace) (pure tt) enumerator (λ s one. s ++ enumerator_adds one)
+  listed_enumerators =
+      comma_list (is_mark p.Comma) (is_mark p.CloseBrace) (pure tt) enumerator (λ s one. s ++ enumerator_adds one)
 
   unfoldable pub enum_body : Scope → Pos → Option Tag → Parser Specifier
   enum_body scope pos tag =
-      listed_enumerators scope >>= λ all. expect (is_mark p.CloseBrace) >>= λ _. pure (tree.Enum pos tag (enumerators all.0) all.1)
+      listed_enumerators scope >>= λ all. expect (is_mark p.CloseBrace)
+      >>= λ _. pure (tree.Enum pos tag (enumerators all.0) all.1)
 
   abbrev pub enum_by : Scope → Pos → Tag → Bool → Parser Specifier
   enum_by scope pos tag true = skip (enum_body scope pos (Some tag))
@@ -180,7 +189,8 @@ with_type Other all = pure (specifiers all)
 
 unfoldable pub specifiers_by : (Specified → Parser Specifier) → Scope → Parser Specifiers
 specifiers_by step scope =
-    many goes_specifier step specified_with (record { scope = scope; type_seen = Nothing }) >>= λ all. with_type (types_seen Nothing all) all
+    many goes_specifier step specified_with (record { scope = scope; type_seen = Nothing })
+    >>= λ all. with_type (types_seen Nothing all) all
 
 -- ---- the parsers of every height
 

@@ -7,9 +7,11 @@ use Rattle.c_syntax.specs.TreeUnit.{Initializer, Item, Statement, BlockItem, Swi
 use Rattle.c_syntax.specs.First.{IsFirst}
 use Rattle.c_syntax.specs.Scopes.{Scope, predeclared}
 use Rattle.c_syntax.specs.Spelling.{spell_declarator}
-use Rattle.c_syntax.specs.SpellingUnit.{spell_initializer, spell_item, spell_statement, spell_block_item, spell_switch_item, spell_external, spell_tree}
+use Rattle.c_syntax.specs.SpellingUnit.{spell_initializer, spell_item, spell_statement, spell_block_item}
+use Rattle.c_syntax.specs.SpellingUnit.{spell_switch_item, spell_external, spell_tree}
 use Rattle.c_syntax.specs.WellFormed.{HasToken}
-use Rattle.c_syntax.specs.WellFormedUnit.{IsInitializer, IsItem, IsStatement, IsBlockItem, IsSwitchItem, IsExternal, IsTree, AreExternals}
+use Rattle.c_syntax.specs.WellFormedUnit.{IsInitializer, IsItem, IsStatement, IsBlockItem, IsSwitchItem, IsExternal}
+use Rattle.c_syntax.specs.WellFormedUnit.{IsTree, AreExternals}
 use Rattle.c_syntax.proofs.FirstLaws.{first_expr, first_declaration}
 
 some_first : (begins : Bool) (scope : Scope) (all : List Spelled) → IsFirst begins scope all → all ≡ [] → ⊥

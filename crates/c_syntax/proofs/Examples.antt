@@ -55,7 +55,8 @@ pub looser : IsExpr (times a (minus a a)) [] expression → ⊥
 looser is = omega (arith, is.2.0)
 
 -- f(a, a) has two arguments, a comma expression is none
-pub comma_argument : IsExpr (tree.Call here a (tree.MoreExprs (tree.InfixOp here between.Comma a a) tree.NoExpr)) [] expression → ⊥
+pub comma_argument : IsExpr (tree.Call here a (tree.MoreExprs (tree.InfixOp here between.Comma a a) tree.NoExpr)) []
+    expression → ⊥
 comma_argument is = omega (arith, is.2.0.0)
 
 -- -a = a is well-formed, and is refused by a later rule; -a - a = a isn't
@@ -69,7 +70,8 @@ abbrev pub int : Specifiers
 int = tree.MoreSpecifiers (tree.BasicType here Int) tree.NoSpecifier
 
 -- sizeof (int) * a is no cast under sizeof
-pub sizeof_cast : IsExpr (tree.PrefixOp here SizeExpr (tree.Cast here (tree.NamedType int tree.Omitted) a)) [] expression → ⊥
+pub sizeof_cast : IsExpr (tree.PrefixOp here SizeExpr (tree.Cast here (tree.NamedType int tree.Omitted) a)) []
+    expression → ⊥
 sizeof_cast is = omega (arith, is.1.0)
 
 -- ---- names
@@ -85,14 +87,22 @@ abbrev pub named : Specifiers
 named = tree.MoreSpecifiers (tree.TypedefName here (codes "T")) tree.NoSpecifier
 
 -- (T) - a
-pub cast_of_type : IsExpr (tree.Cast here (tree.NamedType named tree.Omitted) (tree.PrefixOp here Minus a)) typed expression
+pub cast_of_type : IsExpr (tree.Cast here (tree.NamedType named tree.Omitted) (tree.PrefixOp here Minus a)) typed
+    expression
 cast_of_type = (omega arith, (inr (refl, refl), (refl, tt), tt, refl), (omega arith, refl))
 
-pub cast_of_hidden : IsExpr (tree.Cast here (tree.NamedType named tree.Omitted) (tree.PrefixOp here Minus a)) hidden expression → ⊥
+pub cast_of_hidden : IsExpr (tree.Cast here (tree.NamedType named tree.Omitted) (tree.PrefixOp here Minus a)) hidden
+    expression → ⊥
 cast_of_hidden is = cc (is.1.1.0)
 
 -- (enum {T})a - T, where T was a type before
-pub enumerator_hides : IsExpr (minus (tree.Cast here (tree.NamedType (tree.MoreSpecifiers (tree.Enum here None (tree.MoreEnumerators (tree.Enumerates here (codes "T") tree.Without) tree.NoEnumerator) false) tree.NoSpecifier) tree.Omitted) a) t) typed expression
+pub enumerator_hides
+    : IsExpr (minus
+    (tree.Cast here
+    (tree.NamedType
+    (tree.MoreSpecifiers
+    (tree.Enum here None (tree.MoreEnumerators (tree.Enumerates here (codes "T") tree.Without) tree.NoEnumerator)
+    false) tree.NoSpecifier) tree.Omitted) a) t) typed expression
 enumerator_hides = (omega arith, (omega arith, (inr (refl, refl), ((tt, (tt, tt)), tt), tt, refl), refl), refl)
 
 -- ---- specifiers and declarators
@@ -110,7 +120,10 @@ pub const_type : SpecifyOneType (tree.MoreSpecifiers (tree.TypeQualifier here qu
 const_type = inr (refl, refl)
 
 -- the parameter int (T): a function that takes a T, or T itself where T is no type
-pub parameter_takes_type : IsParameter (tree.Param int (tree.FunctionOf tree.Omitted (tree.MoreParameters (tree.Param named tree.Omitted) tree.NoParameter) false)) typed
+pub parameter_takes_type
+    : IsParameter
+    (tree.Param int
+    (tree.FunctionOf tree.Omitted (tree.MoreParameters (tree.Param named tree.Omitted) tree.NoParameter) false)) typed
 parameter_takes_type =
     (inl (omega arith, refl), (tt, tt), (tt, tt, ((inr (refl, refl), (refl, tt), tt, tt), tt), tt), tt)
 
@@ -121,7 +134,8 @@ pub parameter_of_no_type : IsParameter (tree.Param int (tree.DParen (tree.Name h
 parameter_of_no_type = (inl (omega arith, refl), (tt, tt), (tt, tt), (refl, tt))
 
 -- int (*T) is T itself
-pub pointer_parameter : IsParameter (tree.Param int (tree.DParen (tree.PointerTo [] (tree.Name here (codes "T"))))) typed
+pub pointer_parameter : IsParameter (tree.Param int (tree.DParen (tree.PointerTo [] (tree.Name here (codes "T")))))
+    typed
 pointer_parameter = (inl (omega arith, refl), (tt, tt), (tt, tt), (tt, tt))
 
 -- no () around an omitted identifier, no array of a pointer without parentheses, no ... alone

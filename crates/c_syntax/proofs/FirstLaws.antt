@@ -19,9 +19,11 @@ use Rattle.c_syntax.specs.First.{begins_specifier, IsFirst, is_specifier_word}
 use Rattle.c_syntax.specs.Operators.{prefix_token, measure_word, compound_word}
 use Rattle.c_syntax.specs.Scopes.{Scope}
 use Rattle.c_syntax.specs.Tokens.{spell_pieces}
-use Rattle.c_syntax.specs.Spelling.{spell, spell_specifier, spell_specifiers, spell_type_name, spell_parameter, spell_member}
+use Rattle.c_syntax.specs.Spelling.{spell, spell_specifier, spell_specifiers, spell_type_name, spell_parameter}
+use Rattle.c_syntax.specs.Spelling.{spell_member}
 use Rattle.c_syntax.specs.SpellingUnit.{spell_declaration}
-use Rattle.c_syntax.specs.WellFormed.{SpecifyOneType, IsExpr, IsSpecifier, AreSpecifiers, IsTypeName, IsParameter, IsMember}
+use Rattle.c_syntax.specs.WellFormed.{SpecifyOneType, IsExpr, IsSpecifier, AreSpecifiers, IsTypeName, IsParameter}
+use Rattle.c_syntax.specs.WellFormed.{IsMember}
 use Rattle.c_syntax.specs.WellFormedUnit.{IsDeclaration}
 
 pub first_more : (begins : Bool) (scope : Scope) (front more : List Spelled)
@@ -62,11 +64,13 @@ first_expr (tree.Index pos array index) scope level is =
 first_expr (tree.Call pos function arguments) scope level is =
     first_more false scope _ _ (first_more false scope _ _ (first_expr function scope _ is.1))
 first_expr (tree.Member pos access whole x) scope level is = first_more false scope _ _ (first_expr whole scope _ is.1)
-first_expr (tree.PostfixOp pos operator operand) scope level is = first_more false scope _ _ (first_expr operand scope _ is.1)
+first_expr (tree.PostfixOp pos operator operand) scope level is =
+    first_more false scope _ _ (first_expr operand scope _ is.1)
 first_expr (tree.PrefixOp pos operator operand) scope level is = first_prefix scope operator
 first_expr (tree.MeasureOp pos operator type) scope level is = first_measure operator
 first_expr (tree.Cast pos type operand) scope level is = refl
-first_expr (tree.InfixOp pos operator left right) scope level is = first_more false scope _ _ (first_expr left scope _ is.1)
+first_expr (tree.InfixOp pos operator left right) scope level is =
+    first_more false scope _ _ (first_expr left scope _ is.1)
 first_expr (tree.Cond pos test then else) scope level is =
     first_more false scope _ _ (first_more false scope _ _ (first_expr test scope _ is.1))
 
@@ -116,7 +120,8 @@ pub first_declaration : (declaration : Declaration) (scope : Scope)
 first_declaration declaration scope is =
     first_more true scope _ _ (first_more true scope _ _ (first_specifiers declaration.specifiers scope is.0 is.1))
 
-pub first_type_name : (type : TypeName) (scope : Scope) → IsTypeName type scope → IsFirst true scope (spell_type_name type)
+pub first_type_name : (type : TypeName) (scope : Scope) → IsTypeName type scope
+    → IsFirst true scope (spell_type_name type)
 first_type_name (tree.NamedType specifiers declarator) scope is =
     first_more true scope _ _ (first_specifiers specifiers scope is.0 is.1)
 

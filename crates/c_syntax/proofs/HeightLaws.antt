@@ -5,7 +5,8 @@ use Rattle.c_syntax.specs.Tree.{Expr, TypeName, Declarator}
 use Rattle.c_syntax.specs.TreeUnit as unit
 use Rattle.c_syntax.specs.TreeUnit.{Initializer, Statement, External, Tree}
 use Rattle.c_syntax.specs.Height.{height, type_name_height, declarator_height}
-use Rattle.c_syntax.specs.HeightUnit.{initializer_height, statement_height, external_height, externals_height, tree_height}
+use Rattle.c_syntax.specs.HeightUnit.{initializer_height, statement_height, external_height, externals_height}
+use Rattle.c_syntax.specs.HeightUnit.{tree_height}
 use Rattle.c_syntax.specs.WellFormed.{HasToken}
 use Rattle.c_syntax.specs.WellFormedUnit.{IsTree}
 

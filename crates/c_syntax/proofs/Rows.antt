@@ -5,7 +5,9 @@ use Rattle.c_syntax.specs.declared.declarator.Declarator as d
 use Rattle.c_syntax.specs.declared.specifier.Specifier as s
 use Rattle.c_syntax.specs.declared.specifier.MemberDeclaration as m
 use Rattle.c_syntax.specs.Tree as tree
-use Rattle.c_syntax.specs.View.{expr_of, exprs_row, exprs, specifier_of, specifiers_row, specifiers_of, declarator_of, declarators_row, declarators, parameter_of, parameters_row, parameters, member_of, members_row, members, maybe_of, value_of, enumerator_of, enumerators_row, enumerators}
+use Rattle.c_syntax.specs.View.{expr_of, exprs_row, exprs, specifier_of, specifiers_row, specifiers_of, declarator_of}
+use Rattle.c_syntax.specs.View.{declarators_row, declarators, parameter_of, parameters_row, parameters, member_of}
+use Rattle.c_syntax.specs.View.{members_row, members, maybe_of, value_of, enumerator_of, enumerators_row, enumerators}
 
 pub exprs_listed : (count : _) (row : e.Row_of-Expr count)
     → exprs_row row ≡ exprs (map expr_of (e.items-the_row-Expr count row))
@@ -46,5 +48,6 @@ pub members_listed : (count : _) (row : s.Row_of-MemberDeclaration count)
 members_listed count s.end_of-MemberDeclaration = refl
 members_listed count (s.more_of-MemberDeclaration shape row shape' row' rest) =
     let next_body = specifiers_listed _ row ∙ ap specifiers_of (sym (s.items_shown-the_row-Specifier-0 shape row)) in
-    let seen' = declarators_listed _ row' ∙ ap (λ all. declarators (map declarator_of all)) (sym (m.items_shown-the_row-Declarator-3 shape' row')) in
+    let seen' = declarators_listed _ row'
+    ∙ ap (λ all. declarators (map declarator_of all)) (sym (m.items_shown-the_row-Declarator-3 shape' row')) in
     λ i. tree.MoreMembers (tree.Declares (next_body i) (seen' i)) (members_listed _ rest i)

@@ -17,8 +17,11 @@ use Rattle.c_syntax.specs.declared.type_name.TypeName as t
 use Rattle.c_syntax.specs.Tree as tree
 use Rattle.c_syntax.specs.Operators.{measure_word, compound_word}
 use Rattle.c_syntax.specs.Tokens.{commas, comma_if, ellipsis_if, mark, mark_at, word_at}
-use Rattle.c_syntax.specs.Spelling.{spell, spelled_arguments, spell_type_name, spell_specifier, spell_specifiers, spell_tag, spell_member, spell_members, spell_declarator, spelled_declarators, spell_enumerator, spelled_enumerators, spell_parameter, spelled_parameters}
-use Rattle.c_syntax.specs.View.{expr_of, exprs, specifier_of, specifiers_of, declarator_of, declarators, parameter_of, parameters, member_of, members, enumerator_of, enumerators, type_name_of}
+use Rattle.c_syntax.specs.Spelling.{spell, spelled_arguments, spell_type_name, spell_specifier, spell_specifiers}
+use Rattle.c_syntax.specs.Spelling.{spell_tag, spell_member, spell_members, spell_declarator, spelled_declarators}
+use Rattle.c_syntax.specs.Spelling.{spell_enumerator, spelled_enumerators, spell_parameter, spelled_parameters}
+use Rattle.c_syntax.specs.View.{expr_of, exprs, specifier_of, specifiers_of, declarator_of, declarators, parameter_of}
+use Rattle.c_syntax.specs.View.{parameters, member_of, members, enumerator_of, enumerators, type_name_of}
 use Rattle.c_syntax.proofs.Rows.{exprs_listed, specifiers_listed, parameters_listed, members_listed, enumerators_listed}
 
 -- ---- lists
@@ -63,7 +66,8 @@ pub call_of : (pos : Pos) (function : Box e.Expr Global) (all : Vec e.Expr Globa
 unfolding arguments_row
 call_of pos function all =
     let row = arguments_row (e.Call pos function all) in
-    ap (λ list. tree.Call pos (expr_of function.value) list) (exprs_listed row.0 row.1 ∙ ap (λ list. exprs (map expr_of list)) (e.items_hidden-the_row-Expr-2 all))
+    ap (λ list. tree.Call pos (expr_of function.value) list) (exprs_listed row.0 row.1
+    ∙ ap (λ list. exprs (map expr_of list)) (e.items_hidden-the_row-Expr-2 all))
 
 pub spells_call : (pos : Pos) (function : Box e.Expr Global) (all : Vec e.Expr Global)
     → spell (expr_of (e.Call pos function all))
@@ -71,7 +75,8 @@ pub spells_call : (pos : Pos) (function : Box e.Expr Global) (all : Vec e.Expr G
     ++ mark_at pos punct.OpenParen ∷ commas (map (λ x. spell (expr_of x)) all.items) ++ mark punct.CloseParen ∷ []
 spells_call pos function all =
     ap spell (call_of pos function all)
-    ∙ ap (λ list. spell (expr_of function.value) ++ mark_at pos punct.OpenParen ∷ commas list ++ mark punct.CloseParen ∷ []) (spelled_exprs all.items)
+    ∙ ap (λ list. spell (expr_of function.value) ++ mark_at pos punct.OpenParen ∷ commas list
+    ++ mark punct.CloseParen ∷ []) (spelled_exprs all.items)
 
 measure_row : e.Expr → (count : _) × s.Row_of-Specifier count
 measure_row (e.Measure' _ _ _ _ row _) = (_, row)
@@ -116,12 +121,14 @@ members_of (s.Compound' _ _ _ _ row) = (_, row)
 members_of _ = (_, s.end_of-MemberDeclaration)
 
 pub compound_tree : (pos : Pos) (compound : CompoundWord) (tag : Option Tag) (all : Vec m.MemberDeclaration Global)
-    → specifier_of (s.Compound pos compound tag all) ≡ tree.Compound pos compound tag (members (map member_of all.items))
+    → specifier_of (s.Compound pos compound tag all)
+    ≡ tree.Compound pos compound tag (members (map member_of all.items))
 unfolding members_of
 compound_tree pos compound tag all =
     let row = members_of (s.Compound pos compound tag all) in
     ap (tree.Compound pos compound tag)
-    (members_listed row.0 row.1 ∙ ap (λ list. members (map member_of list)) (s.items_hidden-the_row-MemberDeclaration-4 all))
+    (members_listed row.0 row.1
+    ∙ ap (λ list. members (map member_of list)) (s.items_hidden-the_row-MemberDeclaration-4 all))
 
 pub spells_compound : (pos : Pos) (compound : CompoundWord) (tag : Option Tag) (all : Vec m.MemberDeclaration Global)
     → spell_specifier (specifier_of (s.Compound pos compound tag all))
@@ -144,7 +151,8 @@ unfolding enumerators_of
 enum_tree pos tag all comma =
     let row = enumerators_of (s.Enum pos tag all comma) in
     ap (λ list. tree.Enum pos tag list comma)
-    (enumerators_listed row.0 row.1 ∙ ap (λ list. enumerators (map enumerator_of list)) (s.items_hidden-the_row-Enumerator-5 all))
+    (enumerators_listed row.0 row.1
+    ∙ ap (λ list. enumerators (map enumerator_of list)) (s.items_hidden-the_row-Enumerator-5 all))
 
 pub spells_enum : (pos : Pos) (tag : Option Tag) (all : Vec n.Enumerator Global) (comma : Bool)
     → spell_specifier (specifier_of (s.Enum pos tag all comma))
@@ -170,7 +178,8 @@ function_seen inner all variadic =
     let row = parameters_row_of (d.FunctionOf inner all variadic) in
     ap
     (λ list. tree.FunctionOf (declarator_of inner.value) list variadic)
-    (parameters_listed row.0 row.1 ∙ ap (λ list. parameters (map parameter_of list)) (d.items_hidden-the_row-Parameter-1 all))
+    (parameters_listed row.0 row.1
+    ∙ ap (λ list. parameters (map parameter_of list)) (d.items_hidden-the_row-Parameter-1 all))
 
 pub spells_function : (inner : Box d.Declarator Global) (all : Vec p.Parameter Global) (variadic : Bool)
     → spell_declarator (declarator_of (d.FunctionOf inner all variadic))

@@ -31,7 +31,9 @@ abbrev main_returns : Expr → Tree
 main_returns expr = record {
   externals = Defines (record {
     specifiers = int;
-    declarator = tree.FunctionOf (tree.Name here (codes "main")) (tree.MoreParameters (tree.Param (tree.MoreSpecifiers (tree.BasicType here Void) tree.NoSpecifier) tree.Omitted) tree.NoParameter) false;
+    declarator = tree.FunctionOf (tree.Name here (codes "main"))
+        (tree.MoreParameters (tree.Param (tree.MoreSpecifiers (tree.BasicType here Void) tree.NoSpecifier)
+        tree.Omitted) tree.NoParameter) false;
     body = MoreBlockItems (Executes (Return here (Some expr))) NoBlockItem;
   }) ∷ [];
   end = here;
@@ -45,7 +47,14 @@ main_fits : (n : ℕ) → IsTree (main_returns (in_parentheses n nought))
 main_fits n = (
   λ e. cc (e),
   (
-    (inl (omega arith, refl), (tt, tt), (tt, tt, ((inl (omega arith, refl), (tt, tt), tt, tt), tt), tt), refl, refl, (parentheses_fit n _, tt)),
+    (
+      inl (omega arith, refl),
+      (tt, tt),
+      (tt, tt, ((inl (omega arith, refl), (tt, tt), tt, tt), tt), tt),
+      refl,
+      refl,
+      (parentheses_fit n _, tt),
+    ),
     tt,
   ),
 )

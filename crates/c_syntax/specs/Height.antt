@@ -1,8 +1,10 @@
--- The height of a node: 1 without parts, else one more than the highest of its parts. Lists, the words of specifiers and
+-- The height of a node: 1 without parts, else one more than the highest of its parts. Lists, the words of specifiers
+-- and
 -- an omitted identifier are no nodes.
 use Rattle.std.specs.Prelude.{ℕ, suc, max}
 use Rattle.c_syntax.specs.Tree as tree
-use Rattle.c_syntax.specs.Tree.{Expr, Exprs, Maybe, TypeName, Specifier, Specifiers, MemberDeclaration, Members, Declarators, Enumerator, Enumerators, Declarator, Parameter, Parameters}
+use Rattle.c_syntax.specs.Tree.{Expr, Exprs, Maybe, TypeName, Specifier, Specifiers, MemberDeclaration, Members}
+use Rattle.c_syntax.specs.Tree.{Declarators, Enumerator, Enumerators, Declarator, Parameter, Parameters}
 
 abbrev mutual
   pub height : Expr → ℕ

@@ -3,7 +3,8 @@ use Rattle.std.specs.Prelude.{ℕ, suc, max, List, [], ◌∷◌, Option, Some, 
 use Rattle.c_syntax.specs.Tree.{Expr}
 use Rattle.c_syntax.specs.Height.{height, specifiers_height, declarator_height}
 use Rattle.c_syntax.specs.TreeUnit as unit
-use Rattle.c_syntax.specs.TreeUnit.{Initializer, Item, Items, InitDeclarator, Declaration, Assert, ForInit, Statement, BlockItem, BlockItems, SwitchItem, SwitchItems, Function, External, Tree}
+use Rattle.c_syntax.specs.TreeUnit.{Initializer, Item, Items, InitDeclarator, Declaration, Assert, ForInit, Statement}
+use Rattle.c_syntax.specs.TreeUnit.{BlockItem, BlockItems, SwitchItem, SwitchItems, Function, External, Tree}
 
 -- an initializer that is an expression is no other node
 abbrev mutual

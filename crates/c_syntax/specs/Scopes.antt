@@ -4,7 +4,8 @@ use Rattle.std.specs.Prelude.{ℕ, Bool, true, false, cond, List, [], ◌∷◌,
 use Rattle.std.specs.Str.{bytes_eq}
 use Rattle.c_syntax.specs.declared.specifier.Storage.TheVariants as storage
 use Rattle.c_syntax.specs.Tree as tree
-use Rattle.c_syntax.specs.Tree.{Expr, Exprs, Maybe, TypeName, Specifier, Specifiers, MemberDeclaration, Members, Declarators, Enumerator, Enumerators, Declarator, Parameter, Parameters}
+use Rattle.c_syntax.specs.Tree.{Expr, Exprs, Maybe, TypeName, Specifier, Specifiers, MemberDeclaration, Members}
+use Rattle.c_syntax.specs.Tree.{Declarators, Enumerator, Enumerators, Declarator, Parameter, Parameters}
 
 -- a declared name, and whether it names a type
 pub record DeclaredName : Type 0 where

@@ -2,9 +2,11 @@
 use Rattle.std.specs.Prelude.{Bool, true, false, cond, List, [], ◌∷◌, ◌++◌, Option, Some, None}
 use Rattle.c_syntax.specs.Tree as tree
 use Rattle.c_syntax.specs.Tree.{Expr, Declarator, Parameters}
-use Rattle.c_syntax.specs.Scopes.{Scope, names_types, own_name, declared_if, declared_by, expr_adds, specifiers_add, declarator_adds, parameters_add}
+use Rattle.c_syntax.specs.Scopes.{Scope, names_types, own_name, declared_if, declared_by, expr_adds, specifiers_add}
+use Rattle.c_syntax.specs.Scopes.{declarator_adds, parameters_add}
 use Rattle.c_syntax.specs.TreeUnit as unit
-use Rattle.c_syntax.specs.TreeUnit.{Initializer, Item, Items, InitDeclarator, Declaration, ForInit, Statement, BlockItem, SwitchItem, Function, External}
+use Rattle.c_syntax.specs.TreeUnit.{Initializer, Item, Items, InitDeclarator, Declaration, ForInit, Statement}
+use Rattle.c_syntax.specs.TreeUnit.{BlockItem, SwitchItem, Function, External}
 
 abbrev mutual
   pub initializer_adds : Initializer → Scope

@@ -5,10 +5,13 @@ use Rattle.c_lexer.specs.declared.word.Word.TheVariants as w
 use Rattle.c_syntax.specs.declared.specifier.Tag.{Tag}
 use Rattle.c_syntax.specs.declared.specifier.Qualifier.{Qualifier}
 use Rattle.c_syntax.specs.declared.spelled.Spelled.{Spelled}
-use Rattle.c_syntax.specs.Tokens.{token_at, word, word_at, mark, mark_at, name, name_at, commas, comma_if, ellipsis_if, spell_pieces}
-use Rattle.c_syntax.specs.Operators.{constant_token, access_token, postfix_token, prefix_token, measure_word, infix_token, storage_word, qualifier_word, basic_word, compound_word}
+use Rattle.c_syntax.specs.Tokens.{token_at, word, word_at, mark, mark_at, name, name_at, commas, comma_if}
+use Rattle.c_syntax.specs.Tokens.{ellipsis_if, spell_pieces}
+use Rattle.c_syntax.specs.Operators.{constant_token, access_token, postfix_token, prefix_token, measure_word}
+use Rattle.c_syntax.specs.Operators.{infix_token, storage_word, qualifier_word, basic_word, compound_word}
 use Rattle.c_syntax.specs.Tree as tree
-use Rattle.c_syntax.specs.Tree.{Expr, Exprs, Maybe, TypeName, Specifier, Specifiers, MemberDeclaration, Members, Declarators, Enumerator, Enumerators, Declarator, Parameter, Parameters}
+use Rattle.c_syntax.specs.Tree.{Expr, Exprs, Maybe, TypeName, Specifier, Specifiers, MemberDeclaration, Members}
+use Rattle.c_syntax.specs.Tree.{Declarators, Enumerator, Enumerators, Declarator, Parameter, Parameters}
 
 abbrev pub spell_tag : Option Tag → List Spelled
 spell_tag None = []
@@ -25,7 +28,8 @@ abbrev mutual
   spell (tree.Id pos x) = name_at pos x ∷ []
   spell (tree.Text pos text) = spell_pieces (Some pos) text.wide text.pieces
   spell (tree.Paren inner) = mark p.OpenParen ∷ spell inner ++ mark p.CloseParen ∷ []
-  spell (tree.Index pos array index) = spell array ++ mark_at pos p.OpenBracket ∷ spell index ++ mark p.CloseBracket ∷ []
+  spell (tree.Index pos array index) =
+      spell array ++ mark_at pos p.OpenBracket ∷ spell index ++ mark p.CloseBracket ∷ []
   spell (tree.Call pos function arguments) =
       spell function ++ mark_at pos p.OpenParen ∷ commas (spelled_arguments arguments) ++ mark p.CloseParen ∷ []
   spell (tree.Member pos access whole x) = spell whole ++ mark_at pos (access_token access) ∷ name x ∷ []

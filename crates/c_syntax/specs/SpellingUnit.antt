@@ -9,7 +9,8 @@ use Rattle.c_syntax.specs.Tokens.{word, word_at, mark, mark_at, name, commas, co
 use Rattle.c_syntax.specs.Tree.{Expr}
 use Rattle.c_syntax.specs.Spelling.{spell, spell_specifiers, spell_declarator}
 use Rattle.c_syntax.specs.TreeUnit as unit
-use Rattle.c_syntax.specs.TreeUnit.{Initializer, Item, Items, InitDeclarator, Declaration, Assert, ForInit, Statement, BlockItem, BlockItems, SwitchItem, SwitchItems, Function, External, Tree}
+use Rattle.c_syntax.specs.TreeUnit.{Initializer, Item, Items, InitDeclarator, Declaration, Assert, ForInit, Statement}
+use Rattle.c_syntax.specs.TreeUnit.{BlockItem, BlockItems, SwitchItem, SwitchItems, Function, External, Tree}
 
 abbrev mutual
   -- 6.7.9

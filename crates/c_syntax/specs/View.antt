@@ -10,7 +10,8 @@ use Rattle.c_syntax.specs.declared.specifier.MemberDeclaration as m
 use Rattle.c_syntax.specs.declared.specifier.Enumerator as n
 use Rattle.c_syntax.specs.declared.type_name.TypeName as t
 use Rattle.c_syntax.specs.Tree as tree
-use Rattle.c_syntax.specs.Tree.{Declarator, Declarators, Enumerator, Enumerators, Expr, Exprs, Literals, Maybe, MemberDeclaration, Members, Parameter, Parameters, Specifier, Specifiers, TypeName}
+use Rattle.c_syntax.specs.Tree.{Declarator, Declarators, Enumerator, Enumerators, Expr, Exprs, Literals, Maybe}
+use Rattle.c_syntax.specs.Tree.{MemberDeclaration, Members, Parameter, Parameters, Specifier, Specifiers, TypeName}
 
 abbrev pub literals_of : code.Literals → Literals
 literals_of text = record { pieces = text.units.items; wide = text.wide }

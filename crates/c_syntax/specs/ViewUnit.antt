@@ -17,7 +17,8 @@ use Rattle.c_syntax.specs.declared.unit.External.TheVariants as external
 use Rattle.c_syntax.specs.declared.unit.Tree as t
 use Rattle.c_syntax.specs.View.{expr_of, declarator_of, specifiers_of, literals_of}
 use Rattle.c_syntax.specs.TreeUnit as unit
-use Rattle.c_syntax.specs.TreeUnit.{Initializer, Item, Items, InitDeclarator, Declaration, Assert, ForInit, Statement, BlockItem, BlockItems, SwitchItem, SwitchItems, Function, External, Tree}
+use Rattle.c_syntax.specs.TreeUnit.{Initializer, Item, Items, InitDeclarator, Declaration, Assert, ForInit, Statement}
+use Rattle.c_syntax.specs.TreeUnit.{BlockItem, BlockItems, SwitchItem, SwitchItems, Function, External, Tree}
 
 abbrev mutual
   pub initializer_of : i.Initializer → Initializer

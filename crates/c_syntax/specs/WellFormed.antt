@@ -2,10 +2,13 @@
 -- in the order of its tokens, each in the scope that those before it left.
 use Rattle.std.specs.Prelude.{◌≡◌, ◌≤◌, ◌⊎◌, ℕ, suc, Bool, true, false, List, [], ◌++◌, Option, Some, None}
 use Rattle.std.specs.Option.{IsSome}
-use Rattle.c_syntax.specs.Levels.{expression, assignment, conditional, logical_or, cast, unary, postfix, infix_level, left_level, right_level, operand_level}
-use Rattle.c_syntax.specs.Scopes.{Scope, is_type, own_name, expr_adds, type_name_adds, specifier_adds, specifiers_add, member_adds, enumerator_adds, declarator_adds, parameter_adds}
+use Rattle.c_syntax.specs.Levels.{expression, assignment, conditional, logical_or, cast, unary, postfix, infix_level}
+use Rattle.c_syntax.specs.Levels.{left_level, right_level, operand_level}
+use Rattle.c_syntax.specs.Scopes.{Scope, is_type, own_name, expr_adds, type_name_adds, specifier_adds, specifiers_add}
+use Rattle.c_syntax.specs.Scopes.{member_adds, enumerator_adds, declarator_adds, parameter_adds}
 use Rattle.c_syntax.specs.Tree as tree
-use Rattle.c_syntax.specs.Tree.{Literals, Expr, Exprs, Maybe, TypeName, Specifier, Specifiers, MemberDeclaration, Members, Declarators, Enumerator, Enumerators, Declarator, Parameter, Parameters}
+use Rattle.c_syntax.specs.Tree.{Literals, Expr, Exprs, Maybe, TypeName, Specifier, Specifiers, MemberDeclaration}
+use Rattle.c_syntax.specs.Tree.{Members, Declarators, Enumerator, Enumerators, Declarator, Parameter, Parameters}
 
 -- ---- what a node asks of its parts, apart from scopes
 
@@ -105,7 +108,8 @@ abbrev mutual
       (level ≤ postfix) × IsExpr function scope postfix × AreArguments arguments (scope ++ expr_adds function)
   IsExpr (tree.Member pos access whole x) scope level = (level ≤ postfix) × IsExpr whole scope postfix
   IsExpr (tree.PostfixOp pos operator operand) scope level = (level ≤ postfix) × IsExpr operand scope postfix
-  IsExpr (tree.PrefixOp pos operator operand) scope level = (level ≤ unary) × IsExpr operand scope (operand_level operator)
+  IsExpr (tree.PrefixOp pos operator operand) scope level = (level ≤ unary)
+      × IsExpr operand scope (operand_level operator)
   IsExpr (tree.MeasureOp pos operator type) scope level = (level ≤ unary) × IsTypeName type scope
   IsExpr (tree.Cast pos type operand) scope level =
       (level ≤ cast) × IsTypeName type scope × IsExpr operand (scope ++ type_name_adds type) cast
@@ -139,7 +143,8 @@ abbrev mutual
 
   pub AreSpecifiers : Specifiers → Scope → Type 0
   AreSpecifiers tree.NoSpecifier scope = Unit {0}
-  AreSpecifiers (tree.MoreSpecifiers first rest) scope = IsSpecifier first scope × AreSpecifiers rest (scope ++ specifier_adds first)
+  AreSpecifiers (tree.MoreSpecifiers first rest) scope = IsSpecifier first scope
+      × AreSpecifiers rest (scope ++ specifier_adds first)
 
   pub IsSpecifier : Specifier → Scope → Type 0
   IsSpecifier (tree.StorageClass pos word) scope = Unit {0}

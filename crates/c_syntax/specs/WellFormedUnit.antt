@@ -4,11 +4,14 @@ use Rattle.std.specs.Option.{IsSome}
 use Rattle.c_syntax.specs.Levels.{expression, assignment, conditional}
 use Rattle.c_syntax.specs.Tree.{Expr}
 use Rattle.c_syntax.specs.HeightUnit.{tree_height, greatest_height}
-use Rattle.c_syntax.specs.Scopes.{Scope, predeclared, names_types, own_name, declared_if, expr_adds, specifiers_add, declarator_adds}
-use Rattle.c_syntax.specs.ScopesUnit.{item_adds, init_adds, optional_adds, for_init_adds, block_item_adds, switch_item_adds, own_parameters, body_scope, external_adds}
+use Rattle.c_syntax.specs.Scopes.{Scope, predeclared, names_types, own_name, declared_if, expr_adds, specifiers_add}
+use Rattle.c_syntax.specs.Scopes.{declarator_adds}
+use Rattle.c_syntax.specs.ScopesUnit.{item_adds, init_adds, optional_adds, for_init_adds, block_item_adds}
+use Rattle.c_syntax.specs.ScopesUnit.{switch_item_adds, own_parameters, body_scope, external_adds}
 use Rattle.c_syntax.specs.WellFormed.{AreAdjacent, SpecifyOneType, DeclaresName, IsExpr, AreSpecifiers, IsDeclarator}
 use Rattle.c_syntax.specs.TreeUnit as unit
-use Rattle.c_syntax.specs.TreeUnit.{Initializer, Item, Items, InitDeclarator, Declaration, Assert, ForInit, Statement, BlockItem, BlockItems, SwitchItem, SwitchItems, Function, External, Tree}
+use Rattle.c_syntax.specs.TreeUnit.{Initializer, Item, Items, InitDeclarator, Declaration, Assert, ForInit, Statement}
+use Rattle.c_syntax.specs.TreeUnit.{BlockItem, BlockItems, SwitchItem, SwitchItems, Function, External, Tree}
 
 abbrev pub HasItem : Items → Type 0
 HasItem unit.NoItem = ⊥
@@ -86,7 +89,8 @@ abbrev mutual
   -- labels stand directly in the block of a switch: switch (a) {case 1: b;}, but not switch (a) {{case 1: b;}}
   IsStatement (unit.Switch pos test items) scope =
       IsExpr test scope expression × AreSwitchItems items (scope ++ expr_adds test)
-  IsStatement (unit.While pos test body) scope = IsExpr test scope expression × IsStatement body (scope ++ expr_adds test)
+  IsStatement (unit.While pos test body) scope = IsExpr test scope expression
+      × IsStatement body (scope ++ expr_adds test)
   -- the body is a block of its own: do {int T;} while (sizeof(T)); where T is a type
   IsStatement (unit.Do pos body test) scope = IsStatement body scope × IsExpr test scope expression
   -- for (int T = 0; T; T++) T = 0; has expressions where T was a type before, and is one again behind

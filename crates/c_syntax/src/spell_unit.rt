@@ -143,7 +143,11 @@ fn for_init(alloc: Global, out: &mut Output, init: &ForInit) -> Result<(), Alloc
 }
 
 /// `expression ;`
-fn optional_statement(alloc: Global, out: &mut Output, expr: &Option<Expr>) -> Result<(), AllocError>
+fn optional_statement(
+    alloc: Global,
+    out: &mut Output,
+    expr: &Option<Expr>,
+) -> Result<(), AllocError>
     ensures { IfOk result (λ _. out.new.items ≡ out.old.items ++ (spec.spell_optional (option_map expr_of expr.now) ++ tokens.mark Punct.Semicolon ∷ [])) }
 {
     optional(alloc, out, expr)?;

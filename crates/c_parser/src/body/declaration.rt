@@ -21,9 +21,9 @@ use crate::read::height::declarator;
 use crate::read::specifier::specifiers;
 use crate::scope::Scope;
 use c_lexer::{Punct, Token};
+use c_reading::declarator_form::DeclaratorForm;
 use c_syntax::declaration::{Declaration, InitDeclarator};
 use c_syntax::declarator::Declarator;
-use c_reading::declarator_form::DeclaratorForm;
 use c_syntax::specifier::Specifier;
 use std::alloc::Global;
 

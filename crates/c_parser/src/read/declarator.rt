@@ -21,8 +21,8 @@ use crate::read::qualifier::qualifiers;
 use crate::read::suffix::{suffix_on, suffixes};
 use crate::scope::Scope;
 use c_lexer::{Body, Punct, Token};
-use c_syntax::declarator::Declarator;
 use c_reading::declarator_form::DeclaratorForm;
+use c_syntax::declarator::Declarator;
 use critical_table::{Name, Pos};
 use std::alloc::Global;
 
@@ -160,7 +160,13 @@ fn star_declarator<'a>(
             }
             pointer(alloc, scope, k, form, tail(tokens))
         }
-        DeclaratorForm::Abstract | DeclaratorForm::Parameter => pointer(alloc, scope, k, form, tail(tokens)),
+        DeclaratorForm::Abstract | DeclaratorForm::Parameter => pointer(
+            alloc,
+            scope,
+            k,
+            form,
+            tail(tokens),
+        ),
     }
 }
 
@@ -206,7 +212,13 @@ fn paren_declarator<'a>(
             }
             nested_declarator(alloc, scope, k, form, tail(tokens))
         }
-        DeclaratorForm::Abstract | DeclaratorForm::Parameter => behind_paren(alloc, scope, k, form, tail(tokens)),
+        DeclaratorForm::Abstract | DeclaratorForm::Parameter => behind_paren(
+            alloc,
+            scope,
+            k,
+            form,
+            tail(tokens),
+        ),
     }
 }
 
@@ -306,7 +318,9 @@ fn bracket_declarator<'a>(
 {
     match form {
         DeclaratorForm::Named => Err(Fault::Unfit(tokens)),
-        DeclaratorForm::Abstract | DeclaratorForm::Parameter => unnamed_array(alloc, scope, k, tokens),
+        DeclaratorForm::Abstract | DeclaratorForm::Parameter => unnamed_array(
+            alloc, scope, k, tokens,
+        ),
     }
 }
 

@@ -17,8 +17,8 @@ use crate::read::height::declarator;
 use crate::read::specifier::specifiers;
 use crate::scope::Scope;
 use c_lexer::{Body, Punct, Token};
-use c_syntax::declarator::Declarator;
 use c_reading::declarator_form::DeclaratorForm;
+use c_syntax::declarator::Declarator;
 use c_syntax::specifier::{MemberDeclaration, Specifier};
 use std::alloc::Global;
 

@@ -16,8 +16,8 @@ use crate::read::height::declarator;
 use crate::read::specifier::specifiers;
 use crate::scope::Scope;
 use c_lexer::Token;
-use c_syntax::declarator::Parameter;
 use c_reading::declarator_form::DeclaratorForm;
+use c_syntax::declarator::Parameter;
 use std::alloc::Global;
 
 /// A parameter declaration (6.7.6.3), whose name is in scope behind it.

@@ -1,5 +1,6 @@
 -- What ends an expression: a mark that closes it, an operator of a lower level, or what ends it at a lower level.
-use Rattle.std.proofs.Common.{◌≡◌, ◌≤◌, ◌<◌, ℕ, nat_le, Bool, true, false, ◌&&◌, List, Option, Some, None, refl, sym, ◌∙◌, ap, arith}
+use Rattle.std.proofs.Common.{◌≡◌, ◌≤◌, ◌<◌, ℕ, nat_le, Bool, true, false, ◌&&◌, List, Option, Some, None, refl, sym}
+use Rattle.std.proofs.Common.{◌∙◌, ap, arith}
 use borrow.Author.Tests.{le-leb, lt-leb, leb-true}
 use Rattle.c_lexer.specs.declared.punct.Punct.{Punct}
 use Rattle.c_lexer.specs.declared.punct.Punct.TheVariants as p
@@ -22,7 +23,8 @@ use Rattle.c_reading.proofs.LevelLaws.{infix_low}
 
 -- ---- operators between operands, read again
 
-arithmetic_again : (operator : Arithmetic) → infix_of (Some (lexeme.Mark (arithmetic_token operator))) ≡ Some (between.Arithmetic operator)
+arithmetic_again : (operator : Arithmetic) → infix_of (Some (lexeme.Mark (arithmetic_token operator)))
+    ≡ Some (between.Arithmetic operator)
 arithmetic_again a.Multiply = refl
 arithmetic_again a.Divide = refl
 arithmetic_again a.Remainder = refl
@@ -34,7 +36,8 @@ arithmetic_again a.BitAnd = refl
 arithmetic_again a.BitXor = refl
 arithmetic_again a.BitOr = refl
 
-compound_again : (operator : Arithmetic) → infix_of (Some (lexeme.Mark (assignment_token operator))) ≡ Some (between.AssignOp operator)
+compound_again : (operator : Arithmetic) → infix_of (Some (lexeme.Mark (assignment_token operator)))
+    ≡ Some (between.AssignOp operator)
 compound_again a.Multiply = refl
 compound_again a.Divide = refl
 compound_again a.Remainder = refl
@@ -46,7 +49,8 @@ compound_again a.BitAnd = refl
 compound_again a.BitXor = refl
 compound_again a.BitOr = refl
 
-comparison_again : (operator : Comparison) → infix_of (Some (lexeme.Mark (comparison_token operator))) ≡ Some (between.Comparison operator)
+comparison_again : (operator : Comparison) → infix_of (Some (lexeme.Mark (comparison_token operator)))
+    ≡ Some (between.Comparison operator)
 comparison_again c.Less = refl
 comparison_again c.Greater = refl
 comparison_again c.LessEqual = refl
@@ -129,26 +133,34 @@ higher_test level higher n low h = let e = leb-true higher n h in le-leb level n
 
 module _ (k : ℕ) (low : Parsers) (left : Expr) where
   -- below the level that is wanted
-  between_below : (level : ℕ) (operator : Infix) (question : Bool) → infix_level operator < level → goes_between level left (Some operator) question ≡ false
+  between_below : (level : ℕ) (operator : Infix) (question : Bool) → infix_level operator < level
+      → goes_between level left (Some operator) question ≡ false
   between_below level operator question below = first_false _ _ (lt-leb level (infix_level operator) below)
 
   between_question : (level : ℕ) (question : Bool) → conditional < level → goes_between level left None question ≡ false
   between_question level question below =
-      first_false (question && nat_le level conditional) _ (second_false question (nat_le level conditional) (lt-leb level conditional below))
+      first_false (question && nat_le level conditional) _
+      (second_false question (nat_le level conditional) (lt-leb level conditional below))
 
-  between_up : (level higher : ℕ) (operator : Option Infix) (question : Bool) → level ≤ higher → goes_between level left operator question ≡ false → goes_between higher left operator question ≡ false
-  between_up level higher (Some operator) question below h = fewer _ _ _ (higher_test level higher (infix_level operator) below) h
+  between_up : (level higher : ℕ) (operator : Option Infix) (question : Bool) → level ≤ higher
+      → goes_between level left operator question ≡ false → goes_between higher left operator question ≡ false
+  between_up level higher (Some operator) question below h =
+      fewer _ _ _ (higher_test level higher (infix_level operator) below) h
   between_up level higher None question below h =
-      fewer (question && nat_le higher conditional) (question && nat_le level conditional) _ (under question (higher_test level higher conditional below)) h
+      fewer (question && nat_le higher conditional) (question && nat_le level conditional) _
+      (under question (higher_test level higher conditional below)) h
     where
-      under : (b : Bool) {strong weak : Bool} → (strong ≡ true → weak ≡ true) → (b && strong) ≡ true → (b && weak) ≡ true
+      under : (b : Bool) {strong weak : Bool} → (strong ≡ true → weak ≡ true) → (b && strong) ≡ true
+          → (b && weak) ≡ true
       under true leads h = leads h
       under false leads h = h
 
 -- ---- what follows an expression
 
-pub ends_closed : (level : ℕ) (tokens : List Token) (mark : Punct) → next_body tokens ≡ Some (lexeme.Mark mark) → ((k : ℕ) (low : Parsers) (left : Expr) → goes_postfix left (Some (lexeme.Mark mark)) ≡ false)
-    → infix_of (Some (lexeme.Mark mark)) ≡ None → is_mark p.Question (Some (lexeme.Mark mark)) ≡ false → EndsExpr level tokens
+pub ends_closed : (level : ℕ) (tokens : List Token) (mark : Punct) → next_body tokens ≡ Some (lexeme.Mark mark)
+    → ((k : ℕ) (low : Parsers) (left : Expr) → goes_postfix left (Some (lexeme.Mark mark)) ≡ false)
+    → infix_of (Some (lexeme.Mark mark)) ≡ None → is_mark p.Question (Some (lexeme.Mark mark)) ≡ false
+    → EndsExpr level tokens
 ends_closed level tokens mark e no_postfix no_infix no_question = record {
   no_literal = λ wide. ap (is_literal wide) e ∙ mark_no_literal wide mark;
   no_postfix = λ k low left. ap (goes_postfix left) e ∙ no_postfix k low left;
@@ -158,29 +170,35 @@ ends_closed level tokens mark e no_postfix no_infix no_question = record {
       ∙ ap (λ question. goes_between level left None question) no_question;
 }
 
-pub ends_infix : (level : ℕ) (tokens : List Token) (operator : Infix) → next_body tokens ≡ Some (lexeme.Mark (infix_token operator)) → infix_level operator < level → EndsExpr level tokens
+pub ends_infix : (level : ℕ) (tokens : List Token) (operator : Infix)
+    → next_body tokens ≡ Some (lexeme.Mark (infix_token operator)) → infix_level operator < level
+    → EndsExpr level tokens
 ends_infix level tokens operator e below = record {
   no_literal = λ wide. ap (is_literal wide) e ∙ mark_no_literal wide (infix_token operator);
   no_postfix = λ k low left. ap (goes_postfix left) e ∙ infix_ends k low left operator;
   no_infix = λ k low left.
       ap (λ o. goes_between level left (infix_of o) (is_mark p.Question o)) e
-      ∙ ap (λ m. goes_between level left m (is_mark p.Question (Some (lexeme.Mark (infix_token operator))))) (infix_again operator)
+      ∙ ap (λ m. goes_between level left m (is_mark p.Question (Some (lexeme.Mark (infix_token operator)))))
+      (infix_again operator)
       ∙ between_below k low left level operator (is_mark p.Question (Some (lexeme.Mark (infix_token operator)))) below;
 }
 
-pub ends_question : (level : ℕ) (tokens : List Token) → next_body tokens ≡ Some (lexeme.Mark p.Question) → conditional < level → EndsExpr level tokens
+pub ends_question : (level : ℕ) (tokens : List Token) → next_body tokens ≡ Some (lexeme.Mark p.Question)
+    → conditional < level → EndsExpr level tokens
 ends_question level tokens e below = record {
   no_literal = λ wide. ap (is_literal wide) e ∙ mark_no_literal wide p.Question;
   no_postfix = λ k low left. ap (goes_postfix left) e;
   no_infix = λ k low left.
-      ap (λ o. goes_between level left (infix_of o) (is_mark p.Question o)) e ∙ between_question k low left level true below;
+      ap (λ o. goes_between level left (infix_of o) (is_mark p.Question o)) e
+      ∙ between_question k low left level true below;
 }
 
 pub ends_up : (level higher : ℕ) (rest : List Token) → level ≤ higher → EndsExpr level rest → EndsExpr higher rest
 ends_up level higher rest below ends = record {
   no_literal = ends.no_literal;
   no_postfix = ends.no_postfix;
-  no_infix = λ k low left. between_up k low left level higher (infix_of (next_body rest)) (is_mark p.Question (next_body rest)) below (ends.no_infix k low left);
+  no_infix = λ k low left. between_up k low left level higher (infix_of (next_body rest))
+      (is_mark p.Question (next_body rest)) below (ends.no_infix k low left);
 }
 
 -- no operator stands between operands at these levels
@@ -191,6 +209,8 @@ ends_high level higher rest high ends = record {
   no_infix = λ k low left. by k low left (infix_of (next_body rest)) (is_mark p.Question (next_body rest));
 }
   where
-    by : (k : ℕ) (low : Parsers) (left : Expr) (operator : Option Infix) (question : Bool) → goes_between higher left operator question ≡ false
+    by : (k : ℕ) (low : Parsers) (left : Expr) (operator : Option Infix) (question : Bool)
+        → goes_between higher left operator question ≡ false
     by k low left None question = between_question k low left higher question (omega arith)
-    by k low left (Some operator) question = between_below k low left higher operator question (omega (arith, infix_low operator))
+    by k low left (Some operator) question =
+        between_below k low left higher operator question (omega (arith, infix_low operator))

@@ -6,7 +6,8 @@ use Rattle.c_reading.specs.ReadSpecifier.{low_specifier, specifier_at, lowest, p
 use Rattle.c_reading.proofs.Grows.Steps.{grown_same, deep_grown}
 use Rattle.c_reading.proofs.Grows.Law.{AllGrown}
 use Rattle.c_reading.proofs.Grows.Expr.{paren_expr_grown, expr_at_grown}
-use Rattle.c_reading.proofs.Grows.Declarator.{no_declarator_grown, declarator_at_grown, type_name_at_grown, parameter_at_grown, member_at_grown}
+use Rattle.c_reading.proofs.Grows.Declarator.{no_declarator_grown, declarator_at_grown, type_name_at_grown}
+use Rattle.c_reading.proofs.Grows.Declarator.{parameter_at_grown, member_at_grown}
 use Rattle.c_reading.proofs.Grows.Specifier.{low_specifier_grown, specifier_at_grown, specifiers_by_grown}
 
 all_same : (r : Parsers) → AllGrown r r
@@ -39,7 +40,8 @@ parsers_grown (suc k) (suc j) le =
       expr = expr_at_grown k j low (parsers k) (parsers j) on;
       paren_expr = paren_expr_grown k j low (parsers k) (parsers j) on;
       type_name = type_name_at_grown k j low (parsers k) (parsers j) on;
-      specifiers = specifiers_by_grown (specifier_at k (parsers k)) (specifier_at j (parsers j)) (specifier_at_grown k j low (parsers k) (parsers j) on);
+      specifiers = specifiers_by_grown (specifier_at k (parsers k)) (specifier_at j (parsers j))
+          (specifier_at_grown k j low (parsers k) (parsers j) on);
       declarator = declarator_at_grown k j low (parsers k) (parsers j) on;
       parameter = parameter_at_grown k j low (parsers k) (parsers j) on;
       member = member_at_grown k j low (parsers k) (parsers j) on;

@@ -10,6 +10,7 @@ pub record AllGrown (r s : Parsers) : Type 0 where
   pub paren_expr : (scope : Scope) → Grown (r.paren_expr scope) (s.paren_expr scope)
   pub type_name : (scope : Scope) → Grown (r.type_name scope) (s.type_name scope)
   pub specifiers : (scope : Scope) → Grown (r.specifiers scope) (s.specifiers scope)
-  pub declarator : (shape : DeclaratorForm) (scope : Scope) → Grown (r.declarator shape scope) (s.declarator shape scope)
+  pub declarator : (shape : DeclaratorForm) (scope : Scope)
+      → Grown (r.declarator shape scope) (s.declarator shape scope)
   pub parameter : (scope : Scope) → Grown (r.parameter scope) (s.parameter scope)
   pub member : (scope : Scope) → Grown (r.member scope) (s.member scope)

@@ -7,8 +7,10 @@ use Rattle.c_syntax.specs.Scopes.{Scope}
 use Rattle.c_reading.proofs.Online.Steps.{TakesOne, online_fail, takes_fail}
 use Rattle.c_reading.proofs.Online.Law.{AllOnline}
 use Rattle.c_reading.proofs.Online.Expr.{paren_expr_online, expr_at_online, expr_at_takes}
-use Rattle.c_reading.proofs.Online.Declarator.{no_declarator_online, declarator_at_online, type_name_at_online, parameter_at_online, member_at_online, member_at_takes}
-use Rattle.c_reading.proofs.Online.Specifier.{low_specifier_online, low_specifier_takes, specifier_at_online, specifier_at_takes, specifiers_by_online, specifiers_by_takes}
+use Rattle.c_reading.proofs.Online.Declarator.{no_declarator_online, declarator_at_online, type_name_at_online}
+use Rattle.c_reading.proofs.Online.Declarator.{parameter_at_online, member_at_online, member_at_takes}
+use Rattle.c_reading.proofs.Online.Specifier.{low_specifier_online, low_specifier_takes, specifier_at_online}
+use Rattle.c_reading.proofs.Online.Specifier.{specifier_at_takes, specifiers_by_online, specifiers_by_takes}
 
 -- and what they find has a token, so that a list of it ends
 pub record AllTake (r : Parsers) : Type 0 where

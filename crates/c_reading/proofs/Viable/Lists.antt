@@ -20,15 +20,20 @@ pub nothing_behind : (front spelled : List Spelled) → front ++ spelled ≡ fro
 nothing_behind front spelled = ap (λ z. front ++ z) (sym (append-nil spelled))
 
 module _ {S A L : Type 0} (k : ℕ) (Fits : S → A → Type 0) (tall : A → ℕ) (spelled : A → List Spelled) (next : S → A → S)
-    (FitFirst FitAll : S → L → Type 0) (tall_all : L → ℕ) (parts : L → List (List Spelled)) (none : L) (more : A → L → L)
-    (fits_none : (s : S) → FitAll s none) (fits_more : (s : S) (a : A) (all : L) → Fits s a → FitAll (next s a) all → FitAll s (more a all))
+    (FitFirst FitAll : S → L → Type 0) (tall_all : L → ℕ) (parts : L → List (List Spelled)) (none : L) (more : A → L
+    → L)
+    (fits_none : (s : S) → FitAll s none) (fits_more : (s : S) (a : A) (all : L) → Fits s a → FitAll (next s a) all
+    → FitAll s (more a all))
     (fits_first : (s : S) (a : A) (all : L) → Fits s a → FitAll (next s a) all → FitFirst s (more a all))
-    (tall_none : tall_all none ≡ 0) (tall_more : (a : A) (all : L) → tall_all (more a all) ≡ max (tall a) (tall_all all))
+    (tall_none : tall_all none ≡ 0) (tall_more : (a : A) (all : L)
+    → tall_all (more a all) ≡ max (tall a) (tall_all all))
     (parts_none : parts none ≡ []) (parts_more : (a : A) (all : L) → parts (more a all) ≡ spelled a ∷ parts all)
-    (ends : Option Body → Bool) (ending : Parser (Unit {0})) (never : (tokens rest : List Token) (why : Why) → ending tokens ≡ Stopped why rest → ⊥)
+    (ends : Option Body → Bool) (ending : Parser (Unit {0})) (never : (tokens rest : List Token) (why : Why)
+    → ending tokens ≡ Stopped why rest → ⊥)
     (one : S → Parser A)
     (sound : (s : S) → Sound (Fits s) tall spelled k (one s))
-    (viable : (s : S) (tokens rest : List Token) (why : Why) → one s tokens ≡ Stopped why rest → Holds (Begins (Fits s) tall spelled) k tokens why rest) where
+    (viable : (s : S) (tokens rest : List Token) (why : Why) → one s tokens ≡ Stopped why rest
+    → Holds (Begins (Fits s) tall spelled) k tokens why rest) where
   abbrev First : S → ℕ → List Token → Type 0
   First s = Begins (FitFirst s) tall_all (λ all. commas (parts all))
 
@@ -47,7 +52,9 @@ module _ {S A L : Type 0} (k : ℕ) (Fits : S → A → Type 0) (tall : A → �
     spells = λ a. ap commas (alone a);
   }
 
-  behind_alone : (s : S) → Context (Fits s) tall spelled (FitAll s) tall_all (λ all. behind_commas (parts all)) (λ j. j) 0 (mark p.Comma ∷ [])
+  behind_alone : (s : S)
+      → Context (Fits s) tall spelled (FitAll s) tall_all (λ all. behind_commas (parts all)) (λ j. j) 0
+      (mark p.Comma ∷ [])
   behind_alone s = record {
     make = λ a. more a none;
     behind = [];
@@ -56,7 +63,9 @@ module _ {S A L : Type 0} (k : ℕ) (Fits : S → A → Type 0) (tall : A → �
     spells = λ a. ap behind_commas (alone a);
   }
 
-  first_others : (s : S) (a : A) → Fits s a → Context (FitAll (next s a)) tall_all (λ all. behind_commas (parts all)) (FitFirst s) tall_all (λ all. commas (parts all)) (λ j. j) (tall a) (spelled a)
+  first_others : (s : S) (a : A) → Fits s a
+      → Context (FitAll (next s a)) tall_all (λ all. behind_commas (parts all)) (FitFirst s) tall_all
+      (λ all. commas (parts all)) (λ j. j) (tall a) (spelled a)
   first_others s a is = record {
     make = λ all. more a all;
     behind = [];
@@ -65,25 +74,36 @@ module _ {S A L : Type 0} (k : ℕ) (Fits : S → A → Type 0) (tall : A → �
     spells = λ all. ap commas (parts_more a all) ∙ nothing_behind (spelled a) (behind_commas (parts all));
   }
 
-  behind_others : (s : S) (a : A) → Fits s a → Context (FitAll (next s a)) tall_all (λ all. behind_commas (parts all)) (FitAll s) tall_all (λ all. behind_commas (parts all)) (λ j. j) (tall a) (mark p.Comma ∷ spelled a)
+  behind_others : (s : S) (a : A) → Fits s a
+      → Context (FitAll (next s a)) tall_all (λ all. behind_commas (parts all)) (FitAll s) tall_all
+      (λ all. behind_commas (parts all)) (λ j. j) (tall a) (mark p.Comma ∷ spelled a)
   behind_others s a is = record {
     make = λ all. more a all;
     behind = [];
     fits = λ all are. fits_more s a all is are;
     within = λ all j low le. omega (arith, tall_more a all);
-    spells = λ all. ap behind_commas (parts_more a all) ∙ nothing_behind (mark p.Comma ∷ spelled a) (behind_commas (parts all));
+    spells = λ all. ap behind_commas (parts_more a all)
+        ∙ nothing_behind (mark p.Comma ∷ spelled a) (behind_commas (parts all));
   }
 
-  behind_fails : (s : S) (tokens rest : List Token) (why : Why) → is_mark p.Comma (next_body tokens) ≡ true → one s (tail tokens) ≡ Stopped why rest → Holds (Behind s) k tokens why rest
-  behind_fails s tokens rest why comma h = into (behind_alone s) (omega arith) (spelt_mark p.Comma tokens comma) (viable s (tail tokens) rest why h)
+  behind_fails : (s : S) (tokens rest : List Token) (why : Why) → is_mark p.Comma (next_body tokens) ≡ true
+      → one s (tail tokens) ≡ Stopped why rest → Holds (Behind s) k tokens why rest
+  behind_fails s tokens rest why comma h =
+      into (behind_alone s) (omega arith) (spelt_mark p.Comma tokens comma) (viable s (tail tokens) rest why h)
 
-  behind_some : (s : S) (tokens mid rest : List Token) (a : A) (why : Why) → is_mark p.Comma (next_body tokens) ≡ true → one s (tail tokens) ≡ Found a mid → Holds (Behind (next s a)) k mid why rest → Holds (Behind s) k tokens why rest
+  behind_some : (s : S) (tokens mid rest : List Token) (a : A) (why : Why)
+      → is_mark p.Comma (next_body tokens) ≡ true → one s (tail tokens) ≡ Found a mid
+      → Holds (Behind (next s a)) k mid why rest → Holds (Behind s) k tokens why rest
   behind_some s tokens mid rest a why comma h then =
-      let x = sound s (tail tokens) mid a h in into (behind_others s a x.fits) x.within (joined (spelt_mark p.Comma tokens comma) (spelt x)) then
+      let x = sound s (tail tokens) mid a h in
+      into (behind_others s a x.fits) x.within (joined (spelt_mark p.Comma tokens comma) (spelt x)) then
 
-  pub listed_viable : (s : S) (tokens rest : List Token) (why : Why) → comma_list (is_mark p.Comma) ends ending one next s tokens ≡ Stopped why rest → Holds (First s) k tokens why rest
+  pub listed_viable : (s : S) (tokens rest : List Token) (why : Why)
+      → comma_list (is_mark p.Comma) ends ending one next s tokens ≡ Stopped why rest
+      → Holds (First s) k tokens why rest
   listed_viable s tokens rest why h =
-      listed_stopped (is_mark p.Comma) ends ending one next (λ s tokens why rest. Holds (Behind s) k tokens why rest) never behind_fails behind_some
+      listed_stopped (is_mark p.Comma) ends ending one next
+      (λ s tokens why rest. Holds (Behind s) k tokens why rest) never behind_fails behind_some
       (λ why rest. Holds (First s) k tokens why rest) s tokens rest why h
       (λ h. into (first_alone s) (omega arith) (nothing_spelt tokens) (viable s tokens rest why h))
       (λ a mid h then. let x = sound s tokens mid a h in into (first_others s a x.fits) x.within (spelt x) then)

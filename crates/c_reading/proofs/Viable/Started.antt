@@ -1,6 +1,7 @@
 -- The least nodes; and that a token that begins an expression, or specifiers, is the first of some.
 use Rattle.std.specs.Prelude.{pos as nonnegative}
-use Rattle.std.proofs.Common.{◌≡◌, ◌⊎◌, inl, inr, ℕ, suc, ◌≤◌, Bool, true, false, ◌||◌, not, is_some, List, [], ◌∷◌, ◌++◌, Option, Some, None, refl, sym, subst, arith}
+use Rattle.std.proofs.Common.{◌≡◌, ◌⊎◌, inl, inr, ℕ, suc, ◌≤◌, Bool, true, false, ◌||◌, not, is_some, List, [], ◌∷◌}
+use Rattle.std.proofs.Common.{◌++◌, Option, Some, None, refl, sym, subst, arith}
 use Rattle.critical_table.specs.declared.pos.Pos.{Pos}
 use Rattle.c_lexer.specs.declared.punct.Punct.TheVariants as p
 use Rattle.c_lexer.specs.declared.token.Body.{Body}
@@ -47,7 +48,14 @@ least_expr = tree.Const origin (constant.Character (nonnegative 0) false)
 
 -- where nothing is read yet, an expression may follow
 pub expr_completed : (scope : Scope) (level k : ℕ) → Completed (λ e. IsExpr e scope level) height spell (suc k) []
-expr_completed scope level k = record { node = least_expr; more = spell least_expr; fits = tt; within = omega arith; parts = refl }
+expr_completed scope level k = record {
+  node = least_expr;
+  more = spell least_expr;
+  fits = tt;
+  within =
+      omega arith;
+  parts = refl;
+}
 
 abbrev pub least_specifiers : Specifiers
 least_specifiers = tree.MoreSpecifiers (tree.BasicType origin basic.Int) tree.NoSpecifier
@@ -87,31 +95,41 @@ module _ (scope : Scope) (level : ℕ) (low : level ≤ unary) (pos : Pos) where
   abbrev Begins : Option Body → Type 0
   Begins = ExprBegun scope level pos
 
-  expr_whole : (next : Body) (e : Expr) (more : List Spelled) → IsExpr e scope level → spell e ≡ token_at pos next ∷ more → Begins (Some next)
+  expr_whole : (next : Body) (e : Expr) (more : List Spelled) → IsExpr e scope level
+      → spell e ≡ token_at pos next ∷ more → Begins (Some next)
   expr_whole next e more fits same = whole_begins (token_at pos next) e more refl fits same
 
   pub prefix_begun : (operator : Prefix) → Begins (Some (prefix_token operator))
-  prefix_begun operator = expr_whole (prefix_token operator) (tree.PrefixOp pos operator least_expr) (spell least_expr) (low, tt) refl
+  prefix_begun operator =
+      expr_whole (prefix_token operator) (tree.PrefixOp pos operator least_expr) (spell least_expr) (low, tt) refl
 
   word_begins : (o : Option Body) → (is_word w.Sizeof o || is_word w.Alignof o) ≡ true → Begins o
   word_begins o h = elim (either (is_word w.Sizeof o) (is_word w.Alignof o) h) [
     | inl x ↦ subst Begins (sym (is_word_is w.Sizeof o x)) (prefix_begun prefix.SizeExpr)
     | inr x ↦ subst Begins (sym (is_word_is w.Alignof o x))
-        (expr_whole (lexeme.Word w.Alignof) (tree.MeasureOp pos measure.AlignType least_type) (mark p.OpenParen ∷ spell_type_name least_type ++ mark p.CloseParen ∷ []) (low, least_type_fits scope) refl)
+        (expr_whole (lexeme.Word w.Alignof) (tree.MeasureOp pos measure.AlignType least_type)
+        (mark p.OpenParen ∷ spell_type_name least_type ++ mark p.CloseParen ∷ []) (low, least_type_fits scope) refl)
   ]
 
   mark_begins : (o : Option Body) → (is_mark p.OpenParen o || is_some (prefix_of o)) ≡ true → Begins o
   mark_begins o h = elim (either (is_mark p.OpenParen o) (is_some (prefix_of o)) h) [
     | inl x ↦ subst Begins (sym (is_mark_is p.OpenParen o x))
-        (whole_begins (mark p.OpenParen) (tree.Paren least_expr) (spell least_expr ++ mark p.CloseParen ∷ []) tt tt refl)
-    | inr x ↦ let y = some_is (prefix_of o) x in subst Begins (sym (token_is prefix_token o (prefix_of o) y.0 (prefix_is o) y.1)) (prefix_begun y.0)
+        (whole_begins (mark p.OpenParen) (tree.Paren least_expr) (spell least_expr ++ mark p.CloseParen ∷ []) tt tt
+        refl)
+    | inr x ↦ let y = some_is (prefix_of o) x in
+        subst Begins (sym (token_is prefix_token o (prefix_of o) y.0 (prefix_is o) y.1)) (prefix_begun y.0)
   ]
 
   pub expr_begun : (o : Option Body) → begins_expr scope o ≡ true → Begins o
-  expr_begun (Some (lexeme.Number number)) h = expr_whole (lexeme.Number number) (tree.Const pos (constant.Number number)) [] tt refl
-  expr_begun (Some (lexeme.Character value wide)) h = expr_whole (lexeme.Character value wide) (tree.Const pos (constant.Character value wide)) [] tt refl
-  expr_begun (Some (lexeme.Literal units wide)) h = expr_whole (lexeme.Literal units wide) (tree.Text pos (record { pieces = units ∷ []; wide = wide })) [] (λ none. cc (none)) refl
-  expr_begun (Some (lexeme.Name x)) h = expr_whole (lexeme.Name x) (tree.Id pos x) [] (not_true (is_type scope x) h) refl
+  expr_begun (Some (lexeme.Number number)) h =
+      expr_whole (lexeme.Number number) (tree.Const pos (constant.Number number)) [] tt refl
+  expr_begun (Some (lexeme.Character value wide)) h =
+      expr_whole (lexeme.Character value wide) (tree.Const pos (constant.Character value wide)) [] tt refl
+  expr_begun (Some (lexeme.Literal units wide)) h =
+      expr_whole (lexeme.Literal units wide) (tree.Text pos (record { pieces = units ∷ []; wide = wide })) []
+      (λ none. cc (none)) refl
+  expr_begun (Some (lexeme.Name x)) h =
+      expr_whole (lexeme.Name x) (tree.Id pos x) [] (not_true (is_type scope x) h) refl
   expr_begun (Some (lexeme.Word next)) h = word_begins (Some (lexeme.Word next)) h
   expr_begun (Some (lexeme.Mark next)) h = mark_begins (Some (lexeme.Mark next)) h
   expr_begun None h = absurd (cc (h))
@@ -125,20 +143,29 @@ module _ (scope : Scope) (pos : Pos) where
   abbrev TypeBegins : Option Body → Type 0
   TypeBegins = TypeBegun scope pos
 
-  type_whole : (next : Body) (all : Specifiers) (more : List Spelled) → SpecifyOneType all → AreSpecifiers all scope → spell_specifiers all ≡ token_at pos next ∷ more → TypeBegins (Some next)
+  type_whole : (next : Body) (all : Specifiers) (more : List Spelled) → SpecifyOneType all → AreSpecifiers all scope
+      → spell_specifiers all ≡ token_at pos next ∷ more → TypeBegins (Some next)
   type_whole next all more one fits same = whole_begins (token_at pos next) all more refl (one, fits) same
 
   storage_begins : (word : Storage) → TypeBegins (Some (lexeme.Word (storage_word word)))
-  storage_begins word = type_whole _ (tree.MoreSpecifiers (tree.StorageClass pos word) least_specifiers) (spell_specifiers least_specifiers) one_type (tt, (tt, tt)) refl
+  storage_begins word =
+      type_whole _ (tree.MoreSpecifiers (tree.StorageClass pos word) least_specifiers)
+      (spell_specifiers least_specifiers) one_type (tt, (tt, tt)) refl
 
   qualifier_begins : (word : Qualifier) → TypeBegins (Some (lexeme.Word (qualifier_word word)))
-  qualifier_begins word = type_whole _ (tree.MoreSpecifiers (tree.TypeQualifier pos word) least_specifiers) (spell_specifiers least_specifiers) one_type (tt, (tt, tt)) refl
+  qualifier_begins word =
+      type_whole _ (tree.MoreSpecifiers (tree.TypeQualifier pos word) least_specifiers)
+      (spell_specifiers least_specifiers) one_type (tt, (tt, tt)) refl
 
   basic_begins : (word : BasicWord) → TypeBegins (Some (lexeme.Word (basic_word word)))
-  basic_begins word = type_whole _ (tree.MoreSpecifiers (tree.BasicType pos word) tree.NoSpecifier) [] (inl (omega arith, refl)) (tt, tt) refl
+  basic_begins word =
+      type_whole _ (tree.MoreSpecifiers (tree.BasicType pos word) tree.NoSpecifier) [] (inl (omega arith, refl))
+      (tt, tt) refl
 
   compound_begins : (word : CompoundWord) → TypeBegins (Some (lexeme.Word (compound_word word)))
-  compound_begins word = type_whole _ (tree.MoreSpecifiers (tree.CompoundTag pos word least_tag) tree.NoSpecifier) (name_at origin [] ∷ []) (inr (refl, refl)) (tt, tt) refl
+  compound_begins word =
+      type_whole _ (tree.MoreSpecifiers (tree.CompoundTag pos word least_tag) tree.NoSpecifier)
+      (name_at origin [] ∷ []) (inr (refl, refl)) (tt, tt) refl
 
   specifier_word_begins : (word : Word) → is_specifier_word word ≡ true → TypeBegins (Some (lexeme.Word word))
   specifier_word_begins w.Typedef h = storage_begins storage.Typedef
@@ -149,7 +176,9 @@ module _ (scope : Scope) (pos : Pos) where
   specifier_word_begins w.Const h = qualifier_begins qualifier.Const
   specifier_word_begins w.Restrict h = qualifier_begins qualifier.Restrict
   specifier_word_begins w.Volatile h = qualifier_begins qualifier.Volatile
-  specifier_word_begins w.Inline h = type_whole _ (tree.MoreSpecifiers (tree.Inline pos) least_specifiers) (spell_specifiers least_specifiers) one_type (tt, (tt, tt)) refl
+  specifier_word_begins w.Inline h =
+      type_whole _ (tree.MoreSpecifiers (tree.Inline pos) least_specifiers) (spell_specifiers least_specifiers)
+      one_type (tt, (tt, tt)) refl
   specifier_word_begins w.Void h = basic_begins basic.Void
   specifier_word_begins w.Char h = basic_begins basic.Char
   specifier_word_begins w.Short h = basic_begins basic.Short
@@ -160,10 +189,13 @@ module _ (scope : Scope) (pos : Pos) where
   specifier_word_begins w.Bool h = basic_begins basic.Bool
   specifier_word_begins w.Struct h = compound_begins compound.Struct
   specifier_word_begins w.Union h = compound_begins compound.Union
-  specifier_word_begins w.Enum h = type_whole _ (tree.MoreSpecifiers (tree.EnumTag pos least_tag) tree.NoSpecifier) (name_at origin [] ∷ []) (inr (refl, refl)) (tt, tt) refl
+  specifier_word_begins w.Enum h =
+      type_whole _ (tree.MoreSpecifiers (tree.EnumTag pos least_tag) tree.NoSpecifier) (name_at origin [] ∷ [])
+      (inr (refl, refl)) (tt, tt) refl
   specifier_word_begins _ h = absurd (cc (h))
 
   pub type_begun : (o : Option Body) → begins_type scope o ≡ true → TypeBegins o
   type_begun (Some (lexeme.Word word)) h = specifier_word_begins word h
-  type_begun (Some (lexeme.Name x)) h = type_whole _ (tree.MoreSpecifiers (tree.TypedefName pos x) tree.NoSpecifier) [] (inr (refl, refl)) (h, tt) refl
+  type_begun (Some (lexeme.Name x)) h =
+      type_whole _ (tree.MoreSpecifiers (tree.TypedefName pos x) tree.NoSpecifier) [] (inr (refl, refl)) (h, tt) refl
   type_begun _ h = absurd (cc (h))

@@ -1,8 +1,10 @@
 -- Each call ends by what is left of the height, and within one height by who calls whom.
 --
 -- What decreases is 64 * (height left) + rank. A call with one height less takes 64 off; at one height a function has a
--- higher rank than each that it calls: 40 an item of a switch, 30 an item of a block, 20 a statement, 9 and 10 behind the
--- word of a statement, 1 to 3 blocks. `statement`, `block_item` and `switch_item` have rank 0 and go to one height less.
+-- higher rank than each that it calls: 40 an item of a switch, 30 an item of a block, 20 a statement, 9 and 10 behind
+-- the
+-- word of a statement, 1 to 3 blocks. `statement`, `block_item` and `switch_item` have rank 0 and go to one height
+-- less.
 use Rattle.std.proofs.Common.{◌≡◌, length, map, take, ◌+◌, ◌*◌, ◌≤◌, ◌++◌}
 use Rattle.c_reading.specs.Parser.{and_then, pure}
 use Rattle.c_reading.specs.ReadBody.{block_run, switch_run, statements}
@@ -62,7 +64,8 @@ decreases-block::block_run l = 64 * l.k + 1
 abbrev pub invariant-block::block_run-each : goal.invariant-block::block_run-each
 invariant-block::block_run-each l = record {
   reads : block_run (statements l.k).block_item l.fn.scope l.tokens
-      ≡ and_then (block_run (statements l.k).block_item l.scope l.rest) (λ more. pure (map block_item_of l.items.items ++ more));
+      ≡ and_then (block_run (statements l.k).block_item l.scope l.rest)
+      (λ more. pure (map block_item_of l.items.items ++ more));
   longer : length l.fn.scope ≤ length l.scope;
   kept : take (length l.fn.scope) l.scope ≡ l.fn.scope;
 }
@@ -76,7 +79,8 @@ decreases-block::switch_run l = 64 * l.k + 1
 abbrev pub invariant-block::switch_run-each : goal.invariant-block::switch_run-each
 invariant-block::switch_run-each l = record {
   reads : switch_run (statements l.k).switch_item l.fn.scope l.tokens
-      ≡ and_then (switch_run (statements l.k).switch_item l.scope l.rest) (λ more. pure (map switch_item_of l.items.items ++ more));
+      ≡ and_then (switch_run (statements l.k).switch_item l.scope l.rest)
+      (λ more. pure (map switch_item_of l.items.items ++ more));
   longer : length l.fn.scope ≤ length l.scope;
   kept : take (length l.fn.scope) l.scope ≡ l.fn.scope;
 }

@@ -8,5 +8,6 @@ use Rattle.c_parser.proofs.next.is_word.Goals as goal
 
 pub returns-in-Some-Word : goal.returns-in-Some-Word
 returns-in-Some-Word c =
-    let here : Some (lexeme.Word c.in-Some-Word.next) ≡ next_body c.args.tokens.now = sym (ap Some c.in-Some-Word.field-0-is) ∙ sym (ap option_copied c.in-Some-Word.is) ∙ c.next_body.ensures in
+    let here : Some (lexeme.Word c.in-Some-Word.next) ≡ next_body c.args.tokens.now =
+    sym (ap Some c.in-Some-Word.field-0-is) ∙ sym (ap option_copied c.in-Some-Word.is) ∙ c.next_body.ensures in
     c.eq.ensures ∙ word_tested c.in-Some-Word.next c.args.word ∙ ap (is_word c.args.word) here

@@ -6,4 +6,5 @@ use Rattle.c_syntax.proofs.output.literals.Given as goal
 
 abbrev pub invariant-loop-units : goal.invariant-loop-units
 invariant-loop-units l =
-    l.out.items ≡ l.initial.out.items ++ map (λ more. bare (lexeme.Literal more l.text.wide)) (take l.units-index l.rest)
+    l.out.items ≡ l.initial.out.items ++ map (λ more. bare (lexeme.Literal more l.text.wide))
+    (take l.units-index l.rest)

@@ -8,5 +8,6 @@ use Rattle.c_syntax.proofs.spell_unit.+initializers.Goals as goal
 
 pub initializer-returns-in_ok-comma_if-in-Braces : goal.initializer-returns-in_ok-comma_if-in-Braces
 initializer-returns-in_ok-comma_if-in-Braces t c =
-    let e = ap (λ x. spell_initializer (initializer_of x)) c.in-Braces.is ∙ spells_braces c.in-Braces.pos c.in-Braces.list c.in-Braces.comma in
+    let e = ap (λ x. spell_initializer (initializer_of x)) c.in-Braces.is
+    ∙ spells_braces c.in-Braces.pos c.in-Braces.list c.in-Braces.comma in
     rw e (search (rules, IfOk-equal, append_assoc))

@@ -13,5 +13,6 @@ statement-returns-in-Block t c =
 
 pub statement-returns-in_ok-head-in-Switch : goal.statement-returns-in_ok-head-in-Switch
 statement-returns-in_ok-head-in-Switch t c =
-    let e = ap (λ x. spell_statement (statement_of x)) c.in-Switch.is ∙ spells_switch c.in-Switch.pos c.in-Switch.test c.in-Switch.list in
+    let e = ap (λ x. spell_statement (statement_of x)) c.in-Switch.is
+    ∙ spells_switch c.in-Switch.pos c.in-Switch.test c.in-Switch.list in
     rw e (search (rules, IfOk-equal, append_assoc))

@@ -1,7 +1,8 @@
 -- Each call ends by what is left of the height, and within one height by who calls whom.
 --
 -- What decreases is 64 * (height left) + rank; at one height a function has a higher rank than each that it calls: 3 an
--- initializer or an item, 2 braces, 1 what stands in them. `initializer` and `item` have rank 0, and go to one height less.
+-- initializer or an item, 2 braces, 1 what stands in them. `initializer` and `item` have rank 0, and go to one height
+-- less.
 use Rattle.std.proofs.Common.{◌≡◌, List, Bool, length, map, ◌+◌, ◌*◌, ◌++◌}
 use Rattle.c_reading.specs.Parser.{and_then, pure}
 use Rattle.c_reading.specs.ReadBody.{initializers, listed_items}
@@ -26,7 +27,8 @@ decreases-listed_items l = 64 * l.k + 1
 abbrev pub invariant-listed_items-each : goal.invariant-listed_items-each
 invariant-listed_items-each l = record {
   reads : listed_items l.k (initializers l.k) l.fn.scope l.tokens
-      ≡ and_then (listed_items l.k (initializers l.k) l.scope l.rest) (λ more. pure {A = List Item × Bool} (map item_of l.items.items ++ more.0, more.1));
+      ≡ and_then (listed_items l.k (initializers l.k) l.scope l.rest)
+      (λ more. pure {A = List Item × Bool} (map item_of l.items.items ++ more.0, more.1));
   scope : l.scope ≡ l.fn.scope ++ items_add (items (map item_of l.items.items));
 }
 

@@ -6,7 +6,8 @@ use Rattle.c_parser.proofs.read.pieces.pieces.Given as goal
 
 abbrev pub invariant-each : goal.invariant-each
 invariant-each l =
-    pieces l.wide l.tokens ≡ and_then (pieces l.wide l.rest) (λ behind. pure {A = List (List ℤ)} (l.more.items ++ behind))
+    pieces l.wide l.tokens
+    ≡ and_then (pieces l.wide l.rest) (λ behind. pure {A = List (List ℤ)} (l.more.items ++ behind))
 
 abbrev pub decreases-each : goal.decreases-each
 decreases-each l = length l.rest

@@ -6,7 +6,8 @@ use Rattle.c_syntax.specs.Scopes.{Scope}
 use Rattle.c_parser.proofs.read.qualifier.qualifiers.Given as goal
 
 abbrev pub invariant-words : goal.invariant-words
-invariant-words l = (scope : Scope) → qualifiers scope l.tokens ≡ and_then (qualifiers scope l.rest) (λ more. pure (l.all.items ++ more))
+invariant-words l = (scope : Scope)
+    → qualifiers scope l.tokens ≡ and_then (qualifiers scope l.rest) (λ more. pure (l.all.items ++ more))
 
 abbrev pub decreases-words : goal.decreases-words
 decreases-words l = length l.rest

@@ -18,7 +18,8 @@ invariant_of-self-in-None-entry c =
     c.self.inside.names
     c.remove.new.self
     (subst (λ all. IsKept all c.self.inside.names) items c.self.invariant)
-    (subst (λ hidden. Updates (slice_cmp nat_cmp) c.self.inside.names c.remove.new.self c.in-Some.entry.name hidden) (sym c.in-None.is) c.remove.ensures.updates)
+    (subst (λ hidden. Updates (slice_cmp nat_cmp) c.self.inside.names c.remove.new.self c.in-Some.entry.name hidden)
+    (sym c.in-None.is) c.remove.ensures.updates)
 
 pub invariant_of-self-in-Some-hidden : goal.invariant_of-self-in-Some-hidden
 invariant_of-self-in-Some-hidden c =
@@ -29,7 +30,9 @@ invariant_of-self-in-Some-hidden c =
     c.in-Some.entry
     c.self.inside.names
     c.insert.new.self
-    (subst (λ hidden. OnOk c.insert.result (Updates (slice_cmp nat_cmp) c.self.inside.names c.insert.new.self c.in-Some.entry.name hidden)) (sym c.in-Some-hidden.is) c.insert.ensures.updates)
+    (subst (λ hidden.
+    OnOk c.insert.result (Updates (slice_cmp nat_cmp) c.self.inside.names c.insert.new.self c.in-Some.entry.name
+    hidden)) (sym c.in-Some-hidden.is) c.insert.ensures.updates)
     c.insert.ensures.absent
     (subst (λ all. IsKept all c.self.inside.names) items c.self.invariant)
 
@@ -42,6 +45,8 @@ invariant_of-self-in-Some-hidden-2 c =
     c.in-Some.entry
     c.self.inside.names
     c.insert.new.self
-    (subst (λ hidden. OnOk c.insert.result (Updates (slice_cmp nat_cmp) c.self.inside.names c.insert.new.self c.in-Some.entry.name hidden)) (sym c.in-Some-hidden.is) c.insert.ensures.updates)
+    (subst (λ hidden.
+    OnOk c.insert.result (Updates (slice_cmp nat_cmp) c.self.inside.names c.insert.new.self c.in-Some.entry.name
+    hidden)) (sym c.in-Some-hidden.is) c.insert.ensures.updates)
     c.insert.ensures.absent
     (subst (λ all. IsKept all c.self.inside.names) items c.self.invariant)
