@@ -72,7 +72,8 @@ impl Scope {
 
     /// Declares typedef names.
     fn declare_types(&mut self, alloc: Global, names: &[&[u8]]) -> Result<(), AllocError>
-        ensures { IfOk result (λ _. self.new ≡ self.old ++ map (λ x. record { name = x.now; names_type = true }) names.now) }
+        ensures { IfOk result (λ _. self.new
+            ≡ self.old ++ map (λ x. record { name = x.now; names_type = true }) names.now) }
     {
         for bytes in names {
             let name = Name::new(alloc, bytes)?;

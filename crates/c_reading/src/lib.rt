@@ -1,5 +1,5 @@
-//! How the tokens of a unit are read: a parser for each class of nodes, as a definition, and the laws that make its answer
-//! the one that the syntax asks for.
+//! How the tokens of a unit are read: a parser for each class of nodes, as a definition, and the laws that make its
+//! answer the one that the syntax asks for.
 #![tactic(auto)]
 
 pub mod declarator_form;

@@ -1,5 +1,5 @@
-//! The syntax of a unit of C (6.5 to 6.9): its tree, the tokens that spell a tree, which trees are well-formed, the one tree
-//! or the one refused place of each list of tokens, and a printer of trees.
+//! The syntax of a unit of C (6.5 to 6.9): its tree, the tokens that spell a tree, which trees are well-formed, the one
+//! tree or the one refused place of each list of tokens, and a printer of trees.
 #![tactic(auto)]
 
 pub mod declaration;

@@ -91,7 +91,8 @@ pub(crate) fn tag(alloc: Global, out: &mut Output, tag: &Option<Tag>) -> Result<
 }
 
 pub(crate) fn constant(out: &mut Output, pos: Pos, constant: Constant) -> Result<(), AllocError>
-    ensures { IfOk result (λ _. out.new.items ≡ out.old.items ++ spec.token_at pos (operators.constant_token constant) ∷ []) }
+    ensures { IfOk result (λ _. out.new.items
+        ≡ out.old.items ++ spec.token_at pos (operators.constant_token constant) ∷ []) }
 {
     match constant {
         Constant::Number(number) => token_at(out, pos, Body::Number(number)),
@@ -104,7 +105,8 @@ pub(crate) fn prefix_operator(
     pos: Pos,
     operator: Prefix,
 ) -> Result<(), AllocError>
-    ensures { IfOk result (λ _. out.new.items ≡ out.old.items ++ spec.token_at pos (operators.prefix_token operator) ∷ []) }
+    ensures { IfOk result (λ _. out.new.items
+        ≡ out.old.items ++ spec.token_at pos (operators.prefix_token operator) ∷ []) }
 {
     match operator {
         Prefix::PreInc => mark_at(out, pos, Punct::Increment),
@@ -154,7 +156,11 @@ fn piece(
     units: &Units,
     wide: bool,
 ) -> Result<(), AllocError>
-    ensures { IfOk result (λ _. out.new.items ≡ out.old.items ++ record { body = Body.Literal units.now wide; place = place } ∷ []) }
+    ensures { IfOk result (λ _. out.new.items ≡ out.old.items ++ record {
+      body = Body.Literal units.now wide;
+      place
+          = place;
+    } ∷ []) }
 {
     let units = Units::from_slice(alloc, units.as_slice())?;
     out.push(Spelled {
@@ -171,7 +177,8 @@ pub(crate) fn literals(
     place: Option<Pos>,
     text: &Literals,
 ) -> Result<(), AllocError>
-    ensures { IfOk result (λ _. out.new.items ≡ out.old.items ++ spec.spell_pieces place (literals_of text.now).wide (literals_of text.now).pieces) }
+    ensures { IfOk result (λ _. out.new.items
+        ≡ out.old.items ++ spec.spell_pieces place (literals_of text.now).wide (literals_of text.now).pieces) }
 {
     let [first, rest @ ..] = text.units.as_slice() else {
         return Ok(());

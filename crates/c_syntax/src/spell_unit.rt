@@ -38,7 +38,8 @@ fn initializer(alloc: Global, out: &mut Output, of: &Initializer) -> Result<(), 
 
 #[cycle(initializers)]
 fn items(alloc: Global, out: &mut Output, list: &[Item]) -> Result<(), AllocError>
-    ensures { IfOk result (λ _. out.new.items ≡ out.old.items ++ commas (map (λ i. spec.spell_item (view.item_of i)) list.now)) }
+    ensures { IfOk result (λ _. out.new.items
+        ≡ out.old.items ++ commas (map (λ i. spec.spell_item (view.item_of i)) list.now)) }
 {
     let [first, rest @ ..] = list else {
         return Ok(());
@@ -74,7 +75,8 @@ fn item(alloc: Global, out: &mut Output, each: &Item) -> Result<(), AllocError>
 }
 
 fn init_declarator(alloc: Global, out: &mut Output, one: &InitDeclarator) -> Result<(), AllocError>
-    ensures { IfOk result (λ _. out.new.items ≡ out.old.items ++ spec.spell_init_declarator (view.init_declarator_of one.now)) }
+    ensures { IfOk result (λ _. out.new.items
+        ≡ out.old.items ++ spec.spell_init_declarator (view.init_declarator_of one.now)) }
 {
     declarator(alloc, out, &one.declarator)?;
     match &one.initializer {
@@ -91,7 +93,8 @@ fn init_declarators(
     out: &mut Output,
     list: &[InitDeclarator],
 ) -> Result<(), AllocError>
-    ensures { IfOk result (λ _. out.new.items ≡ out.old.items ++ commas (map (λ d. spec.spell_init_declarator (view.init_declarator_of d)) list.now)) }
+    ensures { IfOk result (λ _. out.new.items
+        ≡ out.old.items ++ commas (map (λ d. spec.spell_init_declarator (view.init_declarator_of d)) list.now)) }
 {
     let [first, rest @ ..] = list else {
         return Ok(());
@@ -148,7 +151,8 @@ fn optional_statement(
     out: &mut Output,
     expr: &Option<Expr>,
 ) -> Result<(), AllocError>
-    ensures { IfOk result (λ _. out.new.items ≡ out.old.items ++ (spec.spell_optional (option_map expr_of expr.now) ++ tokens.mark Punct.Semicolon ∷ [])) }
+    ensures { IfOk result (λ _. out.new.items
+        ≡ out.old.items ++ (spec.spell_optional (option_map expr_of expr.now) ++ tokens.mark Punct.Semicolon ∷ [])) }
 {
     optional(alloc, out, expr)?;
     mark(out, Punct::Semicolon)
@@ -162,7 +166,8 @@ fn head(
     first: Word,
     test: &Expr,
 ) -> Result<(), AllocError>
-    ensures { IfOk result (λ _. out.new.items ≡ out.old.items ++ tokens.word_at pos first ∷ spec.spell_controlling (expr_of test.now)) }
+    ensures { IfOk result (λ _. out.new.items
+        ≡ out.old.items ++ tokens.word_at pos first ∷ spec.spell_controlling (expr_of test.now)) }
 {
     word_at(out, pos, first)?;
     paren(alloc, out, test)
@@ -177,7 +182,9 @@ fn for_head(
     test: &Option<Expr>,
     step: &Option<Expr>,
 ) -> Result<(), AllocError>
-    ensures { IfOk result (λ _. out.new.items ≡ out.old.items ++ spec.spell_for_head pos (view.for_init_of init.now) (option_map expr_of test.now) (option_map expr_of step.now)) }
+    ensures { IfOk result (λ _. out.new.items
+        ≡ out.old.items ++ spec.spell_for_head pos (view.for_init_of init.now) (option_map expr_of test.now)
+        (option_map expr_of step.now)) }
 {
     word_at(out, pos, Word::For)?;
     mark(out, Punct::OpenParen)?;
@@ -189,7 +196,9 @@ fn for_head(
 
 /// `while (test);` behind the body of a `do`.
 fn do_tail(alloc: Global, out: &mut Output, test: &Expr) -> Result<(), AllocError>
-    ensures { IfOk result (λ _. out.new.items ≡ out.old.items ++ (tokens.word Word.While ∷ spec.spell_controlling (expr_of test.now) ++ tokens.mark Punct.Semicolon ∷ [])) }
+    ensures { IfOk result (λ _. out.new.items
+        ≡ out.old.items ++ (tokens.word Word.While ∷ spec.spell_controlling (expr_of test.now)
+        ++ tokens.mark Punct.Semicolon ∷ [])) }
 {
     word(out, Word::While)?;
     paren(alloc, out, test)?;
@@ -198,7 +207,8 @@ fn do_tail(alloc: Global, out: &mut Output, test: &Expr) -> Result<(), AllocErro
 
 /// A word and a semicolon.
 fn jump(out: &mut Output, pos: Pos, first: Word) -> Result<(), AllocError>
-    ensures { IfOk result (λ _. out.new.items ≡ out.old.items ++ tokens.word_at pos first ∷ tokens.mark Punct.Semicolon ∷ []) }
+    ensures { IfOk result (λ _. out.new.items
+        ≡ out.old.items ++ tokens.word_at pos first ∷ tokens.mark Punct.Semicolon ∷ []) }
 {
     word_at(out, pos, first)?;
     mark(out, Punct::Semicolon)
@@ -248,7 +258,8 @@ fn statement(alloc: Global, out: &mut Output, of: &Statement) -> Result<(), Allo
 /// `else statement`
 #[cycle(statements)]
 fn otherwise(alloc: Global, out: &mut Output, second: &Statement) -> Result<(), AllocError>
-    ensures { IfOk result (λ _. out.new.items ≡ out.old.items ++ tokens.word Word.Else ∷ spec.spell_statement (view.statement_of second.now)) }
+    ensures { IfOk result (λ _. out.new.items
+        ≡ out.old.items ++ tokens.word Word.Else ∷ spec.spell_statement (view.statement_of second.now)) }
 {
     word(out, Word::Else)?;
     statement(alloc, out, second)
@@ -257,7 +268,10 @@ fn otherwise(alloc: Global, out: &mut Output, second: &Statement) -> Result<(), 
 /// `{ items }`
 #[cycle(statements)]
 fn block(alloc: Global, out: &mut Output, list: &[BlockItem]) -> Result<(), AllocError>
-    ensures { IfOk result (λ _. out.new.items ≡ out.old.items ++ (tokens.mark Punct.OpenBrace ∷ flat_map (λ i. spec.spell_block_item (view.block_item_of i)) list.now ++ tokens.mark Punct.CloseBrace ∷ [])) }
+    ensures { IfOk result (λ _. out.new.items
+        ≡ out.old.items
+        ++ (tokens.mark Punct.OpenBrace ∷ flat_map (λ i. spec.spell_block_item (view.block_item_of i)) list.now
+        ++ tokens.mark Punct.CloseBrace ∷ [])) }
 {
     mark(out, Punct::OpenBrace)?;
     block_items(alloc, out, list)?;
@@ -267,7 +281,10 @@ fn block(alloc: Global, out: &mut Output, list: &[BlockItem]) -> Result<(), Allo
 /// `{ items }`
 #[cycle(statements)]
 fn switch_block(alloc: Global, out: &mut Output, list: &[SwitchItem]) -> Result<(), AllocError>
-    ensures { IfOk result (λ _. out.new.items ≡ out.old.items ++ (tokens.mark Punct.OpenBrace ∷ flat_map (λ i. spec.spell_switch_item (view.switch_item_of i)) list.now ++ tokens.mark Punct.CloseBrace ∷ [])) }
+    ensures { IfOk result (λ _. out.new.items
+        ≡ out.old.items
+        ++ (tokens.mark Punct.OpenBrace ∷ flat_map (λ i. spec.spell_switch_item (view.switch_item_of i)) list.now
+        ++ tokens.mark Punct.CloseBrace ∷ [])) }
 {
     mark(out, Punct::OpenBrace)?;
     switch_items(alloc, out, list)?;
@@ -276,7 +293,8 @@ fn switch_block(alloc: Global, out: &mut Output, list: &[SwitchItem]) -> Result<
 
 #[cycle(statements)]
 fn block_items(alloc: Global, out: &mut Output, list: &[BlockItem]) -> Result<(), AllocError>
-    ensures { IfOk result (λ _. out.new.items ≡ out.old.items ++ flat_map (λ i. spec.spell_block_item (view.block_item_of i)) list.now) }
+    ensures { IfOk result (λ _. out.new.items
+        ≡ out.old.items ++ flat_map (λ i. spec.spell_block_item (view.block_item_of i)) list.now) }
 {
     for each in list {
         block_item(alloc, out, each)?;
@@ -297,7 +315,8 @@ fn block_item(alloc: Global, out: &mut Output, each: &BlockItem) -> Result<(), A
 
 #[cycle(statements)]
 fn switch_items(alloc: Global, out: &mut Output, list: &[SwitchItem]) -> Result<(), AllocError>
-    ensures { IfOk result (λ _. out.new.items ≡ out.old.items ++ flat_map (λ i. spec.spell_switch_item (view.switch_item_of i)) list.now) }
+    ensures { IfOk result (λ _. out.new.items
+        ≡ out.old.items ++ flat_map (λ i. spec.spell_switch_item (view.switch_item_of i)) list.now) }
 {
     for each in list {
         switch_item(alloc, out, each)?;
@@ -307,7 +326,8 @@ fn switch_items(alloc: Global, out: &mut Output, list: &[SwitchItem]) -> Result<
 
 #[cycle(statements)]
 fn switch_item(alloc: Global, out: &mut Output, each: &SwitchItem) -> Result<(), AllocError>
-    ensures { IfOk result (λ _. out.new.items ≡ out.old.items ++ spec.spell_switch_item (view.switch_item_of each.now)) }
+    ensures { IfOk result (λ _. out.new.items
+        ≡ out.old.items ++ spec.spell_switch_item (view.switch_item_of each.now)) }
 {
     match each {
         SwitchItem::Case(pos, value) => {

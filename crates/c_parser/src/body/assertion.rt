@@ -65,7 +65,8 @@ fn message<'a>(
     condition: Box<Expr>,
     tokens: &'a [Token],
 ) -> Result<(Box<Assert>, &'a [Token]), Fault<'a>>
-    ensures reads { (k : ℕ) → Gives (λ x. assert_of x.value) (spec.message k pos (expr_of condition.value) tokens.now) result }
+    ensures reads { (k : ℕ)
+        → Gives (λ x. assert_of x.value) (spec.message k pos (expr_of condition.value) tokens.now) result }
     ensures condition { IfOk result (λ x. expr_of x.0.value.condition ≡ expr_of condition.value) }
 {
     match tokens {

@@ -175,7 +175,8 @@ pub(crate) fn block_run<'a>(
     tokens: &'a [Token],
 ) -> Result<(Vec<BlockItem>, &'a [Token]), Fault<'a>>
     requires { k < 2 ^ 32 }
-    ensures reads { Gives (λ x. map block_item_of x.items) (spec.block_run (spec.statements k).block_item scope.old tokens.now) result }
+    ensures reads { Gives (λ x. map block_item_of x.items)
+        (spec.block_run (spec.statements k).block_item scope.old tokens.now) result }
     ensures longer { IfOk result (λ _. length scope.old ≤ length scope.new) }
     ensures kept { IfOk result (λ _. take (length scope.old) scope.new ≡ scope.old) }
 {
@@ -198,7 +199,8 @@ pub(crate) fn switch_run<'a>(
     tokens: &'a [Token],
 ) -> Result<(Vec<SwitchItem>, &'a [Token]), Fault<'a>>
     requires { k < 2 ^ 32 }
-    ensures reads { Gives (λ x. map switch_item_of x.items) (spec.switch_run (spec.statements k).switch_item scope.old tokens.now) result }
+    ensures reads { Gives (λ x. map switch_item_of x.items)
+        (spec.switch_run (spec.statements k).switch_item scope.old tokens.now) result }
     ensures longer { IfOk result (λ _. length scope.old ≤ length scope.new) }
     ensures kept { IfOk result (λ _. take (length scope.old) scope.new ≡ scope.old) }
 {

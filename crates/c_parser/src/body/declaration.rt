@@ -52,8 +52,11 @@ fn declaration_on<'a>(
     tokens: &'a [Token],
 ) -> Result<(Declaration, &'a [Token]), Fault<'a>>
     requires { k < 2 ^ 32 }
-    ensures reads { Gives (λ x. declaration_of x) (spec.declaration_by k scope.old (specifiers_of specifiers.items) (token.is_mark p.Semicolon (next_body tokens.now)) tokens.now) result }
-    ensures scope { IfOk result (λ x. (outer : names.Scope) → scope.old ≡ outer ++ names.specifiers_add (specifiers_of specifiers.items) → scope.new ≡ outer ++ declaration_adds (declaration_of x.0)) }
+    ensures reads { Gives (λ x. declaration_of x) (spec.declaration_by k scope.old (specifiers_of specifiers.items)
+        (token.is_mark p.Semicolon (next_body tokens.now)) tokens.now) result }
+    ensures scope { IfOk result (λ x. (outer : names.Scope)
+        → scope.old ≡ outer ++ names.specifiers_add (specifiers_of specifiers.items)
+        → scope.new ≡ outer ++ declaration_adds (declaration_of x.0)) }
 {
     if is_mark(tokens, Punct::Semicolon) {
         let declarators = Vec::new(alloc);
@@ -80,8 +83,13 @@ pub(crate) fn declared_on<'a>(
     tokens: &'a [Token],
 ) -> Result<(Declaration, &'a [Token]), Fault<'a>>
     requires { k < 2 ^ 32 }
-    ensures reads { (outer : names.Scope) → scope.old ≡ outer ++ declarator_adds (declarator_of declarator.value) → Gives (λ x. declaration_of x) (spec.declared_on k outer (specifiers_of specifiers.items) (declarator_of declarator.value) tokens.now) result }
-    ensures scope { IfOk result (λ x. (outer : names.Scope) → scope.old ≡ outer ++ names.specifiers_add (specifiers_of specifiers.items) ++ declarator_adds (declarator_of declarator.value) → scope.new ≡ outer ++ declaration_adds (declaration_of x.0)) }
+    ensures reads { (outer : names.Scope) → scope.old ≡ outer ++ declarator_adds (declarator_of declarator.value)
+        → Gives (λ x. declaration_of x)
+        (spec.declared_on k outer (specifiers_of specifiers.items) (declarator_of declarator.value) tokens.now) result }
+    ensures scope { IfOk result (λ x. (outer : names.Scope)
+        → scope.old ≡ outer ++ names.specifiers_add (specifiers_of specifiers.items)
+        ++ declarator_adds (declarator_of declarator.value)
+        → scope.new ≡ outer ++ declaration_adds (declaration_of x.0)) }
 {
     let names_type = names_types(&specifiers);
     let (first, rest) = init_on(alloc, scope, k, names_type, declarator, tokens)?;
@@ -98,8 +106,13 @@ fn declared_in<'a>(
     tokens: &'a [Token],
 ) -> Result<(Declaration, &'a [Token]), Fault<'a>>
     requires { k < 2 ^ 32 }
-    ensures reads { Gives (λ x. declaration_of x) (spec.declared_in k scope.old (specifiers_of specifiers.items) (init_declarator_of first.value) tokens.now) result }
-    ensures scope { IfOk result (λ x. (outer : names.Scope) → scope.old ≡ outer ++ names.specifiers_add (specifiers_of specifiers.items) ++ spec.init_declarator_adds k (names.names_types (specifiers_of specifiers.items)) (init_declarator_of first.value) → scope.new ≡ outer ++ declaration_adds (declaration_of x.0)) }
+    ensures reads { Gives (λ x. declaration_of x)
+        (spec.declared_in k scope.old (specifiers_of specifiers.items) (init_declarator_of first.value) tokens.now)
+        result }
+    ensures scope { IfOk result (λ x. (outer : names.Scope)
+        → scope.old ≡ outer ++ names.specifiers_add (specifiers_of specifiers.items)
+        ++ spec.init_declarator_adds k (names.names_types (specifiers_of specifiers.items))
+        (init_declarator_of first.value) → scope.new ≡ outer ++ declaration_adds (declaration_of x.0)) }
 {
     let names_type = names_types(&specifiers);
     let (declarators, rest) = all_declarators(alloc, scope, k, names_type, first, tokens)?;
@@ -123,8 +136,11 @@ fn all_declarators<'a>(
     tokens: &'a [Token],
 ) -> Result<(Vec<InitDeclarator>, &'a [Token]), Fault<'a>>
     requires { k < 2 ^ 32 }
-    ensures reads { Gives (λ x. map init_declarator_of x.items) (spec.all_declarators k names_type scope.old (init_declarator_of first.value) tokens.now) result }
-    ensures scope { IfOk result (λ x. (outer : names.Scope) → scope.old ≡ outer ++ spec.init_declarator_adds k names_type (init_declarator_of first.value) → scope.new ≡ outer ++ init_declarators_add names_type (map init_declarator_of x.0.items)) }
+    ensures reads { Gives (λ x. map init_declarator_of x.items)
+        (spec.all_declarators k names_type scope.old (init_declarator_of first.value) tokens.now) result }
+    ensures scope { IfOk result (λ x. (outer : names.Scope)
+        → scope.old ≡ outer ++ spec.init_declarator_adds k names_type (init_declarator_of first.value)
+        → scope.new ≡ outer ++ init_declarators_add names_type (map init_declarator_of x.0.items)) }
 {
     let mut all = Vec::new(alloc);
     all.push(Box::into_inner(first))?;
@@ -147,8 +163,10 @@ fn init_declarator<'a>(
     tokens: &'a [Token],
 ) -> Result<(Box<InitDeclarator>, &'a [Token]), Fault<'a>>
     requires { k < 2 ^ 32 }
-    ensures reads { Gives (λ x. init_declarator_of x.value) (spec.init_declarator k names_type scope.old tokens.now) result }
-    ensures scope { IfOk result (λ x. scope.new ≡ scope.old ++ spec.init_declarator_adds k names_type (init_declarator_of x.0.value)) }
+    ensures reads { Gives (λ x. init_declarator_of x.value) (spec.init_declarator k names_type scope.old tokens.now)
+        result }
+    ensures scope { IfOk result (λ x. scope.new
+        ≡ scope.old ++ spec.init_declarator_adds k names_type (init_declarator_of x.0.value)) }
 {
     let (one, rest) = declarator(alloc, scope, k, DeclaratorForm::Named, tokens)?;
     init_on(alloc, scope, k, names_type, one.node, rest)
@@ -164,8 +182,11 @@ fn init_on<'a>(
     tokens: &'a [Token],
 ) -> Result<(Box<InitDeclarator>, &'a [Token]), Fault<'a>>
     requires { k < 2 ^ 32 }
-    ensures reads { Gives (λ x. init_declarator_of x.value) (spec.init_in k names_type scope.old (declarator_of declarator.value) tokens.now) result }
-    ensures scope { IfOk result (λ x. (outer : names.Scope) → scope.old ≡ outer ++ declarator_adds (declarator_of declarator.value) → scope.new ≡ outer ++ spec.init_declarator_adds k names_type (init_declarator_of x.0.value)) }
+    ensures reads { Gives (λ x. init_declarator_of x.value)
+        (spec.init_in k names_type scope.old (declarator_of declarator.value) tokens.now) result }
+    ensures scope { IfOk result (λ x. (outer : names.Scope)
+        → scope.old ≡ outer ++ declarator_adds (declarator_of declarator.value)
+        → scope.new ≡ outer ++ spec.init_declarator_adds k names_type (init_declarator_of x.0.value)) }
 {
     declare_own_name(alloc, scope, names_type, &declarator)?;
     if is_mark(tokens, Punct::Assign) {

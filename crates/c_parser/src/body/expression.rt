@@ -51,7 +51,8 @@ pub(crate) fn optional<'a>(
     tokens: &'a [Token],
 ) -> Result<(Box<Option<Expr>>, &'a [Token]), Fault<'a>>
     requires { k < 2 ^ 32 }
-    ensures reads { Gives (λ x. option_map expr_of x.value) (spec.optional k (spec.statements k) (test.is_mark end) scope.old tokens.now) result }
+    ensures reads { Gives (λ x. option_map expr_of x.value)
+        (spec.optional k (spec.statements k) (test.is_mark end) scope.old tokens.now) result }
     ensures scope { IfOk result (λ x. scope.new ≡ scope.old ++ optional_adds (option_map expr_of x.0.value)) }
 {
     if is_mark(tokens, end) {

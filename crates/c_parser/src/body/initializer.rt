@@ -44,7 +44,8 @@ pub(crate) fn initializer<'a>(
     tokens: &'a [Token],
 ) -> Result<(Box<Initializer>, &'a [Token]), Fault<'a>>
     requires { h < 2 ^ 32 }
-    ensures reads { Gives (λ x. initializer_of x.value) ((spec.initializers h).initializer scope.old tokens.now) result }
+    ensures reads { Gives (λ x. initializer_of x.value) ((spec.initializers h).initializer scope.old tokens.now)
+        result }
     ensures scope { IfOk result (λ x. scope.new ≡ scope.old ++ initializer_adds (initializer_of x.0.value)) }
 {
     if h > 0 {
@@ -66,7 +67,8 @@ fn initializer_at<'a>(
     tokens: &'a [Token],
 ) -> Result<(Box<Initializer>, &'a [Token]), Fault<'a>>
     requires { k + 1 < 2 ^ 32 }
-    ensures reads { Gives (λ x. initializer_of x.value) (spec.initializer_at k (spec.initializers k) scope.old tokens.now) result }
+    ensures reads { Gives (λ x. initializer_of x.value) (spec.initializer_at k (spec.initializers k) scope.old tokens.now)
+        result }
     ensures scope { IfOk result (λ x. scope.new ≡ scope.old ++ initializer_adds (initializer_of x.0.value)) }
 {
     if is_mark(tokens, Punct::OpenBrace) {
@@ -116,7 +118,8 @@ fn listed_items<'a>(
     tokens: &'a [Token],
 ) -> Result<(Listed, &'a [Token]), Fault<'a>>
     requires { k < 2 ^ 32 }
-    ensures reads { Gives (λ x. (map item_of x.items.items, x.comma)) (spec.listed_items k (spec.initializers k) scope.old tokens.now) result }
+    ensures reads { Gives (λ x. (map item_of x.items.items, x.comma))
+        (spec.listed_items k (spec.initializers k) scope.old tokens.now) result }
     ensures scope { IfOk result (λ x. scope.new ≡ scope.old ++ items_add (spec.items (map item_of x.0.items.items))) }
 {
     let mut items = Vec::new(alloc);
@@ -198,7 +201,8 @@ fn member_item<'a>(
     tokens: &'a [Token],
 ) -> Result<(Box<Item>, &'a [Token]), Fault<'a>>
     requires { k < 2 ^ 32 }
-    ensures reads { Gives (λ x. item_of x.value) (spec.member_item k (spec.initializers k) scope.old pos tokens.now) result }
+    ensures reads { Gives (λ x. item_of x.value) (spec.member_item k (spec.initializers k) scope.old pos tokens.now)
+        result }
     ensures scope { IfOk result (λ x. scope.new ≡ scope.old ++ item_adds (item_of x.0.value)) }
 {
     match tokens {
@@ -229,7 +233,8 @@ fn index_item<'a>(
     tokens: &'a [Token],
 ) -> Result<(Box<Item>, &'a [Token]), Fault<'a>>
     requires { k < 2 ^ 32 }
-    ensures reads { Gives (λ x. item_of x.value) (spec.index_item k (spec.initializers k) scope.old pos tokens.now) result }
+    ensures reads { Gives (λ x. item_of x.value) (spec.index_item k (spec.initializers k) scope.old pos tokens.now)
+        result }
     ensures scope { IfOk result (λ x. scope.new ≡ scope.old ++ item_adds (item_of x.0.value)) }
 {
     let (index, rest) = expr(alloc, scope, k, CONDITIONAL, tokens)?;

@@ -31,7 +31,8 @@ pub(crate) fn while_on<'a>(
     tokens: &'a [Token],
 ) -> Result<(Box<Statement>, &'a [Token]), Fault<'a>>
     requires { k < 2 ^ 32 }
-    ensures reads { Gives (λ x. statement_of x.value) (spec.while_on k (spec.statements k) scope.old pos tokens.now) result }
+    ensures reads { Gives (λ x. statement_of x.value) (spec.while_on k (spec.statements k) scope.old pos tokens.now)
+        result }
     ensures scope { IfOk result (λ x. scope.new ≡ scope.old ++ statement_adds (statement_of x.0.value)) }
 {
     let outer = scope.len();
@@ -53,7 +54,8 @@ pub(crate) fn do_on<'a>(
     tokens: &'a [Token],
 ) -> Result<(Box<Statement>, &'a [Token]), Fault<'a>>
     requires { k < 2 ^ 32 }
-    ensures reads { Gives (λ x. statement_of x.value) (spec.do_on k (spec.statements k) scope.old pos tokens.now) result }
+    ensures reads { Gives (λ x. statement_of x.value) (spec.do_on k (spec.statements k) scope.old pos tokens.now)
+        result }
     ensures scope { IfOk result (λ x. scope.new ≡ scope.old ++ statement_adds (statement_of x.0.value)) }
 {
     let outer = scope.len();
@@ -80,7 +82,8 @@ pub(crate) fn for_on<'a>(
     tokens: &'a [Token],
 ) -> Result<(Box<Statement>, &'a [Token]), Fault<'a>>
     requires { k < 2 ^ 32 }
-    ensures reads { Gives (λ x. statement_of x.value) (spec.for_on k (spec.statements k) scope.old pos tokens.now) result }
+    ensures reads { Gives (λ x. statement_of x.value) (spec.for_on k (spec.statements k) scope.old pos tokens.now)
+        result }
     ensures scope { IfOk result (λ x. scope.new ≡ scope.old ++ statement_adds (statement_of x.0.value)) }
 {
     let outer = scope.len();
@@ -102,7 +105,8 @@ fn for_begun<'a>(
     tokens: &'a [Token],
 ) -> Result<(Box<Statement>, &'a [Token]), Fault<'a>>
     requires { k < 2 ^ 32 }
-    ensures reads { Gives (λ x. statement_of x.value) (spec.for_begun k (spec.statements k) scope.old pos (for_init_of init.value) tokens.now) result }
+    ensures reads { Gives (λ x. statement_of x.value)
+        (spec.for_begun k (spec.statements k) scope.old pos (for_init_of init.value) tokens.now) result }
     ensures scope { IfOk result (λ x. scope.new ≡ scope.old ++ statement_adds (statement_of x.0.value)) }
     ensures closed { IfOk result (λ x. statement_adds (statement_of x.0.value) ≡ []) }
 {

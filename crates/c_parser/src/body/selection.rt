@@ -29,7 +29,8 @@ pub(crate) fn if_on<'a>(
     tokens: &'a [Token],
 ) -> Result<(Box<Statement>, &'a [Token]), Fault<'a>>
     requires { k < 2 ^ 32 }
-    ensures reads { Gives (λ x. statement_of x.value) (spec.if_on k (spec.statements k) scope.old pos tokens.now) result }
+    ensures reads { Gives (λ x. statement_of x.value) (spec.if_on k (spec.statements k) scope.old pos tokens.now)
+        result }
     ensures scope { IfOk result (λ x. scope.new ≡ scope.old ++ statement_adds (statement_of x.0.value)) }
 {
     let outer = scope.len();
@@ -81,7 +82,8 @@ fn switch_block<'a>(
     tokens: &'a [Token],
 ) -> Result<(Vec<SwitchItem>, &'a [Token]), Fault<'a>>
     requires { k < 2 ^ 32 }
-    ensures reads { Gives (λ x. spec.switch_items (map switch_item_of x.items)) (spec.switch_with (spec.statements k).switch_item scope.old tokens.now) result }
+    ensures reads { Gives (λ x. spec.switch_items (map switch_item_of x.items))
+        (spec.switch_with (spec.statements k).switch_item scope.old tokens.now) result }
     ensures scope { IfOk result (λ x. scope.new ≡ scope.old) }
 {
     let outer = scope.len();

@@ -88,7 +88,8 @@ pub(crate) fn statement_at<'a>(
     tokens: &'a [Token],
 ) -> Result<(Box<Statement>, &'a [Token]), Fault<'a>>
     requires { k < 2 ^ 32 }
-    ensures reads { Gives (λ x. statement_of x.value) (spec.statement_at k (spec.statements k) scope.old tokens.now) result }
+    ensures reads { Gives (λ x. statement_of x.value) (spec.statement_at k (spec.statements k) scope.old tokens.now)
+        result }
     ensures scope { IfOk result (λ x. scope.new ≡ scope.old ++ statement_adds (statement_of x.0.value)) }
 {
     let [first, rest @ ..] = tokens else {
@@ -121,7 +122,8 @@ fn compound<'a>(
     tokens: &'a [Token],
 ) -> Result<(Box<Statement>, &'a [Token]), Fault<'a>>
     requires { k < 2 ^ 32 }
-    ensures reads { Gives (λ x. statement_of x.value) (spec.compound k (spec.statements k) scope.old tokens.now) result }
+    ensures reads { Gives (λ x. statement_of x.value) (spec.compound k (spec.statements k) scope.old tokens.now)
+        result }
     ensures scope { IfOk result (λ x. scope.new ≡ scope.old ++ statement_adds (statement_of x.0.value)) }
 {
     let (items, rest) = block(alloc, scope, k, tokens)?;
@@ -139,7 +141,8 @@ pub(crate) fn block<'a>(
     tokens: &'a [Token],
 ) -> Result<(Vec<BlockItem>, &'a [Token]), Fault<'a>>
     requires { k < 2 ^ 32 }
-    ensures reads { Gives (λ x. block_items (map block_item_of x.items)) (spec.block_with (spec.statements k).block_item scope.old tokens.now) result }
+    ensures reads { Gives (λ x. block_items (map block_item_of x.items))
+        (spec.block_with (spec.statements k).block_item scope.old tokens.now) result }
     ensures scope { IfOk result (λ x. scope.new ≡ scope.old) }
 {
     let outer = scope.len();
@@ -157,7 +160,8 @@ fn expression_statement<'a>(
     tokens: &'a [Token],
 ) -> Result<(Box<Statement>, &'a [Token]), Fault<'a>>
     requires { k < 2 ^ 32 }
-    ensures reads { Gives (λ x. statement_of x.value) (spec.expression_statement k (spec.statements k) scope.old tokens.now) result }
+    ensures reads { Gives (λ x. statement_of x.value) (spec.expression_statement k (spec.statements k) scope.old tokens.now)
+        result }
     ensures scope { IfOk result (λ x. scope.new ≡ scope.old ++ statement_adds (statement_of x.0.value)) }
 {
     let (expr, rest) = optional(alloc, scope, k, Punct::Semicolon, tokens)?;

@@ -59,7 +59,8 @@ fn block_lower<'a>(
     tokens: &'a [Token],
 ) -> Result<(Vec<BlockItem>, &'a [Token]), Fault<'a>>
     requires { k < 2 ^ 32 }
-    ensures reads { Gives (λ x. block_items (map block_item_of x.items)) (spec.block_lower k scope.old tokens.now) result }
+    ensures reads { Gives (λ x. block_items (map block_item_of x.items)) (spec.block_lower k scope.old tokens.now)
+        result }
     ensures scope { IfOk result (λ x. scope.new ≡ scope.old) }
 {
     if k == 0 {
@@ -78,8 +79,16 @@ fn function<'a>(
     tokens: &'a [Token],
 ) -> Result<(Box<External>, &'a [Token]), Fault<'a>>
     requires { k < 2 ^ 32 }
-    ensures reads { (outer : names.Scope) → scope.old ≡ outer ++ specifiers_add (specifiers_of specifiers.items) ++ declarator_adds (declarator_of declarator.value) → Gives (λ x. external_of x.value) (spec.function_in k (spec.function_scope k outer (specifiers_of specifiers.items) (declarator_of declarator.value)) (specifiers_of specifiers.items) (declarator_of declarator.value) tokens.now) result }
-    ensures scope { IfOk result (λ x. (outer : names.Scope) → scope.old ≡ outer ++ specifiers_add (specifiers_of specifiers.items) ++ declarator_adds (declarator_of declarator.value) → scope.new ≡ outer ++ external_adds (external_of x.0.value)) }
+    ensures reads { (outer : names.Scope) → scope.old ≡ outer ++ specifiers_add (specifiers_of specifiers.items)
+        ++ declarator_adds (declarator_of declarator.value)
+        → Gives (λ x. external_of x.value)
+        (spec.function_in k
+        (spec.function_scope k outer (specifiers_of specifiers.items) (declarator_of declarator.value))
+        (specifiers_of specifiers.items) (declarator_of declarator.value) tokens.now) result }
+    ensures scope { IfOk result (λ x. (outer : names.Scope)
+        → scope.old ≡ outer ++ specifiers_add (specifiers_of specifiers.items)
+        ++ declarator_adds (declarator_of declarator.value)
+        → scope.new ≡ outer ++ external_adds (external_of x.0.value)) }
 {
     declare_own_name(alloc, scope, names_types(&specifiers), &declarator)?;
     let outside = scope.len();
@@ -101,8 +110,14 @@ fn external_on<'a>(
     tokens: &'a [Token],
 ) -> Result<(Box<External>, &'a [Token]), Fault<'a>>
     requires { k < 2 ^ 32 }
-    ensures reads { (outer : names.Scope) → scope.old ≡ outer ++ specifiers_add (specifiers_of specifiers.items) ++ declarator_adds (declarator_of declarator.value) → Gives (λ x. external_of x.value) (spec.external_on k outer (specifiers_of specifiers.items) (declarator_of declarator.value) tokens.now) result }
-    ensures scope { IfOk result (λ x. (outer : names.Scope) → scope.old ≡ outer ++ specifiers_add (specifiers_of specifiers.items) ++ declarator_adds (declarator_of declarator.value) → scope.new ≡ outer ++ external_adds (external_of x.0.value)) }
+    ensures reads { (outer : names.Scope) → scope.old ≡ outer ++ specifiers_add (specifiers_of specifiers.items)
+        ++ declarator_adds (declarator_of declarator.value)
+        → Gives (λ x. external_of x.value)
+        (spec.external_on k outer (specifiers_of specifiers.items) (declarator_of declarator.value) tokens.now) result }
+    ensures scope { IfOk result (λ x. (outer : names.Scope)
+        → scope.old ≡ outer ++ specifiers_add (specifiers_of specifiers.items)
+        ++ declarator_adds (declarator_of declarator.value)
+        → scope.new ≡ outer ++ external_adds (external_of x.0.value)) }
 {
     if is_body(&declarator, tokens) {
         return function(alloc, scope, k, specifiers, declarator, tail(tokens));
@@ -121,8 +136,13 @@ fn external_by<'a>(
     tokens: &'a [Token],
 ) -> Result<(Box<External>, &'a [Token]), Fault<'a>>
     requires { k < 2 ^ 32 }
-    ensures reads { (outer : names.Scope) → scope.old ≡ outer ++ specifiers_add (specifiers_of specifiers.items) → Gives (λ x. external_of x.value) (spec.external_by k outer (specifiers_of specifiers.items) (next.is_mark Punct.Semicolon (next_body tokens.now)) tokens.now) result }
-    ensures scope { IfOk result (λ x. (outer : names.Scope) → scope.old ≡ outer ++ specifiers_add (specifiers_of specifiers.items) → scope.new ≡ outer ++ external_adds (external_of x.0.value)) }
+    ensures reads { (outer : names.Scope) → scope.old ≡ outer ++ specifiers_add (specifiers_of specifiers.items)
+        → Gives (λ x. external_of x.value)
+        (spec.external_by k outer (specifiers_of specifiers.items)
+        (next.is_mark Punct.Semicolon (next_body tokens.now)) tokens.now) result }
+    ensures scope { IfOk result (λ x. (outer : names.Scope)
+        → scope.old ≡ outer ++ specifiers_add (specifiers_of specifiers.items)
+        → scope.new ≡ outer ++ external_adds (external_of x.0.value)) }
 {
     if is_mark(tokens, Punct::Semicolon) {
         let declaration = Declaration {

@@ -14,7 +14,8 @@ pub(crate) fn with_initializer(
     declarator: Box<Declarator>,
     value: Box<Initializer>,
 ) -> Result<Box<InitDeclarator>, AllocError>
-    ensures { IfOk result (λ x. init_declarator_of x.value ≡ record { declarator = declarator_of declarator.value; initializer = Some (initializer_of value.value) }) }
+    ensures { IfOk result (λ x. init_declarator_of x.value
+        ≡ record { declarator = declarator_of declarator.value; initializer = Some (initializer_of value.value) }) }
 {
     Ok(Box::new(
         alloc,
@@ -29,7 +30,8 @@ pub(crate) fn without_initializer(
     alloc: Global,
     declarator: Box<Declarator>,
 ) -> Result<Box<InitDeclarator>, AllocError>
-    ensures { IfOk result (λ x. init_declarator_of x.value ≡ record { declarator = declarator_of declarator.value; initializer = None }) }
+    ensures { IfOk result (λ x. init_declarator_of x.value
+        ≡ record { declarator = declarator_of declarator.value; initializer = None }) }
 {
     Ok(Box::new(
         alloc,

@@ -52,7 +52,8 @@ pub(crate) fn index(
     index: Box<Expr>,
     value: Box<Initializer>,
 ) -> Result<Box<Item>, AllocError>
-    ensures { IfOk result (λ x. item_of x.value ≡ tree.ForIndex pos (expr_of index.value) (initializer_of value.value)) }
+    ensures { IfOk result (λ x. item_of x.value
+        ≡ tree.ForIndex pos (expr_of index.value) (initializer_of value.value)) }
 {
     let index = Box::into_inner(index);
     Ok(Box::new(alloc, Item::Index(pos, index, Box::into_inner(value)))?)

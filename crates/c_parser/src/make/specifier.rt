@@ -104,7 +104,8 @@ pub(crate) fn compound(
     all: Parts<MemberDeclaration>,
 ) -> Result<Part<Specifier>, AllocError>
     requires { all.height + 1 < 2 ^ 64 }
-    ensures tree { IfOk result (λ x. specifier_of x.node.value ≡ tree.Compound pos word tag (members (map member_of all.nodes.items))) }
+    ensures tree { IfOk result (λ x. specifier_of x.node.value
+        ≡ tree.Compound pos word tag (members (map member_of all.nodes.items))) }
     ensures height { IfOk result (λ x. x.height ≡ all.height + 1) }
 {
     Ok(Part {
@@ -121,7 +122,8 @@ pub(crate) fn enumeration(
     comma: bool,
 ) -> Result<Part<Specifier>, AllocError>
     requires { all.height + 1 < 2 ^ 64 }
-    ensures tree { IfOk result (λ x. specifier_of x.node.value ≡ tree.Enum pos tag (enumerators (map enumerator_of all.nodes.items)) comma) }
+    ensures tree { IfOk result (λ x. specifier_of x.node.value
+        ≡ tree.Enum pos tag (enumerators (map enumerator_of all.nodes.items)) comma) }
     ensures height { IfOk result (λ x. x.height ≡ all.height + 1) }
 {
     Ok(Part {
@@ -153,7 +155,8 @@ pub(crate) fn enumerator(
     name: &Name,
     value: Part<Expr>,
 ) -> Result<Part<Enumerator>, AllocError>
-    ensures tree { IfOk result (λ x. enumerator_of x.node.value ≡ tree.Enumerates pos name.now (tree.With (expr_of value.node.value))) }
+    ensures tree { IfOk result (λ x. enumerator_of x.node.value
+        ≡ tree.Enumerates pos name.now (tree.With (expr_of value.node.value))) }
     ensures height { IfOk result (λ x. x.height ≡ value.height) }
 {
     let name = Name::new(alloc, name.bytes())?;

@@ -36,7 +36,8 @@ pub(crate) fn if_else(
     then: Box<Statement>,
     other: Box<Statement>,
 ) -> Result<Box<Statement>, AllocError>
-    ensures { IfOk result (λ x. statement_of x.value ≡ tree.IfElse pos (expr_of test.value) (statement_of then.value) (statement_of other.value)) }
+    ensures { IfOk result (λ x. statement_of x.value
+        ≡ tree.IfElse pos (expr_of test.value) (statement_of then.value) (statement_of other.value)) }
 {
     Ok(Box::new(
         alloc,
@@ -50,7 +51,8 @@ pub(crate) fn switch(
     test: Box<Expr>,
     items: Vec<SwitchItem>,
 ) -> Result<Box<Statement>, AllocError>
-    ensures { IfOk result (λ x. statement_of x.value ≡ tree.Switch pos (expr_of test.value) (switch_items (map switch_item_of items.items))) }
+    ensures { IfOk result (λ x. statement_of x.value
+        ≡ tree.Switch pos (expr_of test.value) (switch_items (map switch_item_of items.items))) }
 {
     Ok(Box::new(alloc, Statement::Switch(pos, Box::into_inner(test), items))?)
 }
@@ -85,7 +87,9 @@ pub(crate) fn for_loop(
     step: Box<Option<Expr>>,
     body: Box<Statement>,
 ) -> Result<Box<Statement>, AllocError>
-    ensures { IfOk result (λ x. statement_of x.value ≡ tree.For pos (for_init_of init.value) (option_map expr_of test.value) (option_map expr_of step.value) (statement_of body.value)) }
+    ensures { IfOk result (λ x. statement_of x.value
+        ≡ tree.For pos (for_init_of init.value) (option_map expr_of test.value) (option_map expr_of step.value)
+        (statement_of body.value)) }
 {
     Ok(Box::new(
         alloc,

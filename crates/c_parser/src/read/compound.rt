@@ -33,7 +33,8 @@ pub(crate) fn compound<'a>(
 ) -> Result<(Part<Specifier>, &'a [Token]), Fault<'a>>
     requires { k < 2 ^ 32 }
     ensures reads { Gives (λ x. specifier_of x.node.value) (spec.compound k (parsers k) scope.old pos word tokens.now) result }
-    ensures height { IfOk result (λ x. (x.0.height ≡ specifier_height (specifier_of x.0.node.value)) × (x.0.height ≤ k + 1)) }
+    ensures height { IfOk result (λ x. (x.0.height ≡ specifier_height (specifier_of x.0.node.value))
+        × (x.0.height ≤ k + 1)) }
     ensures scope { IfOk result (λ x. scope.new ≡ scope.old ++ specifier_adds (specifier_of x.0.node.value)) }
 {
     match tokens {
@@ -77,8 +78,10 @@ fn compound_tag<'a>(
     tokens: &'a [Token],
 ) -> Result<(Part<Specifier>, &'a [Token]), Fault<'a>>
     requires { k < 2 ^ 32 }
-    ensures reads { Gives (λ x. specifier_of x.node.value) (spec.compound_tag k (parsers k) scope.old pos word tag tokens.now) result }
-    ensures height { IfOk result (λ x. (x.0.height ≡ specifier_height (specifier_of x.0.node.value)) × (x.0.height ≤ k + 1)) }
+    ensures reads { Gives (λ x. specifier_of x.node.value) (spec.compound_tag k (parsers k) scope.old pos word tag tokens.now)
+        result }
+    ensures height { IfOk result (λ x. (x.0.height ≡ specifier_height (specifier_of x.0.node.value))
+        × (x.0.height ≤ k + 1)) }
     ensures scope { IfOk result (λ x. scope.new ≡ scope.old ++ specifier_adds (specifier_of x.0.node.value)) }
 {
     if !is_mark(tokens, Punct::OpenBrace) {
@@ -102,8 +105,10 @@ fn compound_body<'a>(
     tokens: &'a [Token],
 ) -> Result<(Part<Specifier>, &'a [Token]), Fault<'a>>
     requires { k < 2 ^ 32 }
-    ensures reads { Gives (λ x. specifier_of x.node.value) (spec.compound_body k (parsers k) scope.old pos word tag tokens.now) result }
-    ensures height { IfOk result (λ x. (x.0.height ≡ specifier_height (specifier_of x.0.node.value)) × (x.0.height ≤ k + 1)) }
+    ensures reads { Gives (λ x. specifier_of x.node.value)
+        (spec.compound_body k (parsers k) scope.old pos word tag tokens.now) result }
+    ensures height { IfOk result (λ x. (x.0.height ≡ specifier_height (specifier_of x.0.node.value))
+        × (x.0.height ≤ k + 1)) }
     ensures scope { IfOk result (λ x. scope.new ≡ scope.old ++ specifier_adds (specifier_of x.0.node.value)) }
 {
     let (all, rest) = all_members(alloc, scope, k, tokens)?;
@@ -120,8 +125,10 @@ fn all_members<'a>(
     tokens: &'a [Token],
 ) -> Result<(Parts<MemberDeclaration>, &'a [Token]), Fault<'a>>
     requires { k < 2 ^ 32 }
-    ensures reads { Gives (λ x. map member_of x.nodes.items) (spec.all_members k (parsers k) scope.old tokens.now) result }
-    ensures height { IfOk result (λ x. (x.0.height ≡ members_height (members (map member_of x.0.nodes.items))) × (x.0.height ≤ k)) }
+    ensures reads { Gives (λ x. map member_of x.nodes.items) (spec.all_members k (parsers k) scope.old tokens.now)
+        result }
+    ensures height { IfOk result (λ x. (x.0.height ≡ members_height (members (map member_of x.0.nodes.items)))
+        × (x.0.height ≤ k)) }
     ensures scope { IfOk result (λ x. scope.new ≡ scope.old ++ members_add (members (map member_of x.0.nodes.items))) }
 {
     let mut all = Parts::new(alloc);

@@ -102,7 +102,8 @@ pub(crate) fn declarator_at<'a>(
 ) -> Result<(Part<Declarator>, &'a [Token]), Fault<'a>>
     requires { k < 2 ^ 32 }
     ensures reads { Gives (λ x. declarator_of x.node.value) (spec.declarator_at k (parsers k) form scope.old tokens.now) result }
-    ensures height { IfOk result (λ x. (x.0.height ≡ declarator_height (declarator_of x.0.node.value)) × (x.0.height ≤ k + 1)) }
+    ensures height { IfOk result (λ x. (x.0.height ≡ declarator_height (declarator_of x.0.node.value))
+        × (x.0.height ≤ k + 1)) }
     ensures scope { IfOk result (λ x. scope.new ≡ scope.old ++ declarator_adds (declarator_of x.0.node.value)) }
 {
     match tokens {
@@ -149,8 +150,10 @@ fn star_declarator<'a>(
     tokens: &'a [Token],
 ) -> Result<(Part<Declarator>, &'a [Token]), Fault<'a>>
     requires { k < 2 ^ 32 }
-    ensures reads { Gives (λ x. declarator_of x.node.value) (spec.room k (parsers k) form (skip (spec.pointer k (parsers k) form scope.old)) tokens.now) result }
-    ensures height { IfOk result (λ x. (x.0.height ≡ declarator_height (declarator_of x.0.node.value)) × (x.0.height ≤ k + 1)) }
+    ensures reads { Gives (λ x. declarator_of x.node.value)
+        (spec.room k (parsers k) form (skip (spec.pointer k (parsers k) form scope.old)) tokens.now) result }
+    ensures height { IfOk result (λ x. (x.0.height ≡ declarator_height (declarator_of x.0.node.value))
+        × (x.0.height ≤ k + 1)) }
     ensures scope { IfOk result (λ x. scope.new ≡ scope.old ++ declarator_adds (declarator_of x.0.node.value)) }
 {
     match form {
@@ -181,8 +184,10 @@ fn pointer<'a>(
     tokens: &'a [Token],
 ) -> Result<(Part<Declarator>, &'a [Token]), Fault<'a>>
     requires { k < 2 ^ 32 }
-    ensures reads { Gives (λ x. declarator_of x.node.value) (spec.pointer k (parsers k) form scope.old tokens.now) result }
-    ensures height { IfOk result (λ x. (x.0.height ≡ declarator_height (declarator_of x.0.node.value)) × (x.0.height ≤ k + 1)) }
+    ensures reads { Gives (λ x. declarator_of x.node.value) (spec.pointer k (parsers k) form scope.old tokens.now)
+        result }
+    ensures height { IfOk result (λ x. (x.0.height ≡ declarator_height (declarator_of x.0.node.value))
+        × (x.0.height ≤ k + 1)) }
     ensures scope { IfOk result (λ x. scope.new ≡ scope.old ++ declarator_adds (declarator_of x.0.node.value)) }
 {
     let (words, rest) = qualifiers(alloc, tokens)?;
@@ -201,8 +206,10 @@ fn paren_declarator<'a>(
     tokens: &'a [Token],
 ) -> Result<(Part<Declarator>, &'a [Token]), Fault<'a>>
     requires { k < 2 ^ 32 }
-    ensures reads { Gives (λ x. declarator_of x.node.value) (spec.open_by k (parsers k) form scope.old tokens.now) result }
-    ensures height { IfOk result (λ x. (x.0.height ≡ declarator_height (declarator_of x.0.node.value)) × (x.0.height ≤ k + 1)) }
+    ensures reads { Gives (λ x. declarator_of x.node.value) (spec.open_by k (parsers k) form scope.old tokens.now)
+        result }
+    ensures height { IfOk result (λ x. (x.0.height ≡ declarator_height (declarator_of x.0.node.value))
+        × (x.0.height ≤ k + 1)) }
     ensures scope { IfOk result (λ x. scope.new ≡ scope.old ++ declarator_adds (declarator_of x.0.node.value)) }
 {
     match form {
@@ -234,7 +241,8 @@ fn behind_paren<'a>(
 ) -> Result<(Part<Declarator>, &'a [Token]), Fault<'a>>
     requires { k < 2 ^ 32 }
     ensures reads { Gives (λ x. declarator_of x.node.value) (spec.behind_paren k (parsers k) form scope.old tokens.now) result }
-    ensures height { IfOk result (λ x. (x.0.height ≡ declarator_height (declarator_of x.0.node.value)) × (x.0.height ≤ k + 1)) }
+    ensures height { IfOk result (λ x. (x.0.height ≡ declarator_height (declarator_of x.0.node.value))
+        × (x.0.height ≤ k + 1)) }
     ensures scope { IfOk result (λ x. scope.new ≡ scope.old ++ declarator_adds (declarator_of x.0.node.value)) }
 {
     if is_mark(tokens, Punct::CloseParen) {
@@ -267,8 +275,10 @@ fn omitted_list<'a>(
     tokens: &'a [Token],
 ) -> Result<(Part<Declarator>, &'a [Token]), Fault<'a>>
     requires { k < 2 ^ 32 }
-    ensures reads { Gives (λ x. declarator_of x.node.value) (spec.omitted_list k (parsers k) scope.old tokens.now) result }
-    ensures height { IfOk result (λ x. (x.0.height ≡ declarator_height (declarator_of x.0.node.value)) × (x.0.height ≤ k + 1)) }
+    ensures reads { Gives (λ x. declarator_of x.node.value) (spec.omitted_list k (parsers k) scope.old tokens.now)
+        result }
+    ensures height { IfOk result (λ x. (x.0.height ≡ declarator_height (declarator_of x.0.node.value))
+        × (x.0.height ≤ k + 1)) }
     ensures scope { IfOk result (λ x. scope.new ≡ scope.old ++ declarator_adds (declarator_of x.0.node.value)) }
 {
     let outer = scope.len();
@@ -292,8 +302,10 @@ fn nested_declarator<'a>(
     tokens: &'a [Token],
 ) -> Result<(Part<Declarator>, &'a [Token]), Fault<'a>>
     requires { k < 2 ^ 32 }
-    ensures reads { Gives (λ x. declarator_of x.node.value) (spec.nested_declarator k (parsers k) form scope.old tokens.now) result }
-    ensures height { IfOk result (λ x. (x.0.height ≡ declarator_height (declarator_of x.0.node.value)) × (x.0.height ≤ k + 1)) }
+    ensures reads { Gives (λ x. declarator_of x.node.value) (spec.nested_declarator k (parsers k) form scope.old tokens.now)
+        result }
+    ensures height { IfOk result (λ x. (x.0.height ≡ declarator_height (declarator_of x.0.node.value))
+        × (x.0.height ≤ k + 1)) }
     ensures scope { IfOk result (λ x. scope.new ≡ scope.old ++ declarator_adds (declarator_of x.0.node.value)) }
 {
     let (inner, rest) = declarator(alloc, scope, k, form, tokens)?;
@@ -313,7 +325,8 @@ fn bracket_declarator<'a>(
 ) -> Result<(Part<Declarator>, &'a [Token]), Fault<'a>>
     requires { k < 2 ^ 32 }
     ensures reads { Gives (λ x. declarator_of x.node.value) (spec.bracket_by k (parsers k) form scope.old tokens.now) result }
-    ensures height { IfOk result (λ x. (x.0.height ≡ declarator_height (declarator_of x.0.node.value)) × (x.0.height ≤ k + 1)) }
+    ensures height { IfOk result (λ x. (x.0.height ≡ declarator_height (declarator_of x.0.node.value))
+        × (x.0.height ≤ k + 1)) }
     ensures scope { IfOk result (λ x. scope.new ≡ scope.old ++ declarator_adds (declarator_of x.0.node.value)) }
 {
     match form {
@@ -333,8 +346,10 @@ fn unnamed_array<'a>(
     tokens: &'a [Token],
 ) -> Result<(Part<Declarator>, &'a [Token]), Fault<'a>>
     requires { k < 2 ^ 32 }
-    ensures reads { Gives (λ x. declarator_of x.node.value) (spec.unnamed_array k (parsers k) scope.old tokens.now) result }
-    ensures height { IfOk result (λ x. (x.0.height ≡ declarator_height (declarator_of x.0.node.value)) × (x.0.height ≤ k + 1)) }
+    ensures reads { Gives (λ x. declarator_of x.node.value) (spec.unnamed_array k (parsers k) scope.old tokens.now)
+        result }
+    ensures height { IfOk result (λ x. (x.0.height ≡ declarator_height (declarator_of x.0.node.value))
+        × (x.0.height ≤ k + 1)) }
     ensures scope { IfOk result (λ x. scope.new ≡ scope.old ++ declarator_adds (declarator_of x.0.node.value)) }
 {
     let inner = make::omission(alloc)?;
@@ -354,8 +369,10 @@ fn name_declarator<'a>(
     tokens: &'a [Token],
 ) -> Result<(Part<Declarator>, &'a [Token]), Fault<'a>>
     requires { k < 2 ^ 32 }
-    ensures reads { Gives (λ x. declarator_of x.node.value) (spec.name_by k (parsers k) form scope.old pos name.now tokens.now) result }
-    ensures height { IfOk result (λ x. (x.0.height ≡ declarator_height (declarator_of x.0.node.value)) × (x.0.height ≤ k + 1)) }
+    ensures reads { Gives (λ x. declarator_of x.node.value)
+        (spec.name_by k (parsers k) form scope.old pos name.now tokens.now) result }
+    ensures height { IfOk result (λ x. (x.0.height ≡ declarator_height (declarator_of x.0.node.value))
+        × (x.0.height ≤ k + 1)) }
     ensures scope { IfOk result (λ x. scope.new ≡ scope.old ++ declarator_adds (declarator_of x.0.node.value)) }
 {
     match form {

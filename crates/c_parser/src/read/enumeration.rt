@@ -31,8 +31,10 @@ pub(crate) fn enumeration<'a>(
     tokens: &'a [Token],
 ) -> Result<(Part<Specifier>, &'a [Token]), Fault<'a>>
     requires { k < 2 ^ 32 }
-    ensures reads { Gives (λ x. specifier_of x.node.value) (spec.enumeration k (parsers k) scope.old pos tokens.now) result }
-    ensures height { IfOk result (λ x. (x.0.height ≡ specifier_height (specifier_of x.0.node.value)) × (x.0.height ≤ k + 1)) }
+    ensures reads { Gives (λ x. specifier_of x.node.value) (spec.enumeration k (parsers k) scope.old pos tokens.now)
+        result }
+    ensures height { IfOk result (λ x. (x.0.height ≡ specifier_height (specifier_of x.0.node.value))
+        × (x.0.height ≤ k + 1)) }
     ensures scope { IfOk result (λ x. scope.new ≡ scope.old ++ specifier_adds (specifier_of x.0.node.value)) }
 {
     match tokens {
@@ -71,7 +73,8 @@ fn enum_tag<'a>(
 ) -> Result<(Part<Specifier>, &'a [Token]), Fault<'a>>
     requires { k < 2 ^ 32 }
     ensures reads { Gives (λ x. specifier_of x.node.value) (spec.enum_tag k (parsers k) scope.old pos tag tokens.now) result }
-    ensures height { IfOk result (λ x. (x.0.height ≡ specifier_height (specifier_of x.0.node.value)) × (x.0.height ≤ k + 1)) }
+    ensures height { IfOk result (λ x. (x.0.height ≡ specifier_height (specifier_of x.0.node.value))
+        × (x.0.height ≤ k + 1)) }
     ensures scope { IfOk result (λ x. scope.new ≡ scope.old ++ specifier_adds (specifier_of x.0.node.value)) }
 {
     if !is_mark(tokens, Punct::OpenBrace) {
@@ -93,7 +96,8 @@ fn enum_body<'a>(
 ) -> Result<(Part<Specifier>, &'a [Token]), Fault<'a>>
     requires { k < 2 ^ 32 }
     ensures reads { Gives (λ x. specifier_of x.node.value) (spec.enum_body k (parsers k) scope.old pos tag tokens.now) result }
-    ensures height { IfOk result (λ x. (x.0.height ≡ specifier_height (specifier_of x.0.node.value)) × (x.0.height ≤ k + 1)) }
+    ensures height { IfOk result (λ x. (x.0.height ≡ specifier_height (specifier_of x.0.node.value))
+        × (x.0.height ≤ k + 1)) }
     ensures scope { IfOk result (λ x. scope.new ≡ scope.old ++ specifier_adds (specifier_of x.0.node.value)) }
 {
     let ((all, comma), rest) = listed_enumerators(alloc, scope, k, tokens)?;
@@ -110,9 +114,12 @@ fn listed_enumerators<'a>(
     tokens: &'a [Token],
 ) -> Result<((Parts<Enumerator>, bool), &'a [Token]), Fault<'a>>
     requires { k < 2 ^ 32 }
-    ensures reads { Gives (λ x. (map enumerator_of x.0.nodes.items, x.1)) (spec.listed_enumerators k (parsers k) scope.old tokens.now) result }
-    ensures height { IfOk result (λ x. (x.0.0.height ≡ enumerators_height (enumerators (map enumerator_of x.0.0.nodes.items))) × (x.0.0.height ≤ k)) }
-    ensures scope { IfOk result (λ x. scope.new ≡ scope.old ++ enumerators_add (enumerators (map enumerator_of x.0.0.nodes.items))) }
+    ensures reads { Gives (λ x. (map enumerator_of x.0.nodes.items, x.1))
+        (spec.listed_enumerators k (parsers k) scope.old tokens.now) result }
+    ensures height { IfOk result (λ x. (x.0.0.height ≡ enumerators_height (enumerators (map enumerator_of x.0.0.nodes.items)))
+        × (x.0.0.height ≤ k)) }
+    ensures scope { IfOk result (λ x. scope.new
+        ≡ scope.old ++ enumerators_add (enumerators (map enumerator_of x.0.0.nodes.items))) }
 {
     let mut all = Parts::new(alloc);
     let mut rest = tokens;
@@ -139,8 +146,10 @@ fn enumerator<'a>(
     tokens: &'a [Token],
 ) -> Result<(Part<Enumerator>, &'a [Token]), Fault<'a>>
     requires { k < 2 ^ 32 }
-    ensures reads { Gives (λ x. enumerator_of x.node.value) (spec.enumerator k (parsers k) scope.old tokens.now) result }
-    ensures height { IfOk result (λ x. (x.0.height ≡ enumerator_height (enumerator_of x.0.node.value)) × (x.0.height ≤ k)) }
+    ensures reads { Gives (λ x. enumerator_of x.node.value) (spec.enumerator k (parsers k) scope.old tokens.now)
+        result }
+    ensures height { IfOk result (λ x. (x.0.height ≡ enumerator_height (enumerator_of x.0.node.value))
+        × (x.0.height ≤ k)) }
     ensures scope { IfOk result (λ x. scope.new ≡ scope.old ++ enumerator_adds (enumerator_of x.0.node.value)) }
 {
     match tokens {
@@ -168,8 +177,10 @@ fn enumerator_on<'a>(
     tokens: &'a [Token],
 ) -> Result<(Part<Enumerator>, &'a [Token]), Fault<'a>>
     requires { k < 2 ^ 32 }
-    ensures reads { Gives (λ x. enumerator_of x.node.value) (spec.enumerator_on k (parsers k) scope.old pos name.now tokens.now) result }
-    ensures height { IfOk result (λ x. (x.0.height ≡ enumerator_height (enumerator_of x.0.node.value)) × (x.0.height ≤ k)) }
+    ensures reads { Gives (λ x. enumerator_of x.node.value)
+        (spec.enumerator_on k (parsers k) scope.old pos name.now tokens.now) result }
+    ensures height { IfOk result (λ x. (x.0.height ≡ enumerator_height (enumerator_of x.0.node.value))
+        × (x.0.height ≤ k)) }
     ensures scope { IfOk result (λ x. scope.new ≡ scope.old ++ enumerator_adds (enumerator_of x.0.node.value)) }
 {
     if !is_mark(tokens, Punct::Assign) {

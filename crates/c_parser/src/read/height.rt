@@ -73,7 +73,8 @@ pub(crate) fn type_name<'a>(
 ) -> Result<(Part<TypeName>, &'a [Token]), Fault<'a>>
     requires { h < 2 ^ 32 }
     ensures reads { Gives (λ x. type_name_of x.node.value) ((parsers h).type_name scope.old tokens.now) result }
-    ensures height { IfOk result (λ x. (x.0.height ≡ type_name_height (type_name_of x.0.node.value)) × (x.0.height ≤ h)) }
+    ensures height { IfOk result (λ x. (x.0.height ≡ type_name_height (type_name_of x.0.node.value))
+        × (x.0.height ≤ h)) }
     ensures scope { IfOk result (λ x. scope.new ≡ scope.old ++ type_name_adds (type_name_of x.0.node.value)) }
 {
     if h == 0 {
@@ -93,7 +94,8 @@ pub(crate) fn declarator<'a>(
 ) -> Result<(Part<Declarator>, &'a [Token]), Fault<'a>>
     requires { h < 2 ^ 32 }
     ensures reads { Gives (λ x. declarator_of x.node.value) ((parsers h).declarator form scope.old tokens.now) result }
-    ensures height { IfOk result (λ x. (x.0.height ≡ declarator_height (declarator_of x.0.node.value)) × (x.0.height ≤ h)) }
+    ensures height { IfOk result (λ x. (x.0.height ≡ declarator_height (declarator_of x.0.node.value))
+        × (x.0.height ≤ h)) }
     ensures scope { IfOk result (λ x. scope.new ≡ scope.old ++ declarator_adds (declarator_of x.0.node.value)) }
 {
     if h == 0 {
@@ -112,7 +114,8 @@ pub(crate) fn parameter<'a>(
 ) -> Result<(Part<Parameter>, &'a [Token]), Fault<'a>>
     requires { h < 2 ^ 32 }
     ensures reads { Gives (λ x. parameter_of x.node.value) ((parsers h).parameter scope.old tokens.now) result }
-    ensures height { IfOk result (λ x. (x.0.height ≡ parameter_height (parameter_of x.0.node.value)) × (x.0.height ≤ h)) }
+    ensures height { IfOk result (λ x. (x.0.height ≡ parameter_height (parameter_of x.0.node.value))
+        × (x.0.height ≤ h)) }
     ensures scope { IfOk result (λ x. scope.new ≡ scope.old ++ parameter_adds (parameter_of x.0.node.value)) }
 {
     if h == 0 {

@@ -130,9 +130,13 @@ fn infixes<'a>(
     requires small { k < 2 ^ 32 }
     requires known { left.height ≡ height (expr_of left.node.value) }
     requires within { left.height ≤ k + 1 }
-    ensures reads { (outer : names.Scope) → scope.old ≡ outer ++ expr_adds (expr_of left.node.value) → Gives (λ x. expr_of x.node.value) (spec.infixes k (parsers k) outer level (expr_of left.node.value) tokens.now) result }
+    ensures reads { (outer : names.Scope) → scope.old ≡ outer ++ expr_adds (expr_of left.node.value)
+        → Gives (λ x. expr_of x.node.value)
+        (spec.infixes k (parsers k) outer level (expr_of left.node.value) tokens.now) result }
     ensures height { IfOk result (λ x. (x.0.height ≡ height (expr_of x.0.node.value)) × (x.0.height ≤ k + 1)) }
-    ensures scope { IfOk result (λ x. (outer : names.Scope) → scope.old ≡ outer ++ expr_adds (expr_of left.node.value) → scope.new ≡ outer ++ expr_adds (expr_of x.0.node.value)) }
+    ensures scope { IfOk result (λ x. (outer : names.Scope)
+        → scope.old ≡ outer ++ expr_adds (expr_of left.node.value)
+        → scope.new ≡ outer ++ expr_adds (expr_of x.0.node.value)) }
 {
     let mut rest = tokens;
     'operators: while goes_infix(level, &left, rest) {
@@ -159,9 +163,14 @@ fn infix_on<'a>(
     requires small { k < 2 ^ 32 }
     requires known { left.height ≡ height (expr_of left.node.value) }
     requires within { left.height ≤ k }
-    ensures reads { (outer : names.Scope) → scope.old ≡ outer ++ expr_adds (expr_of left.node.value) → Gives (λ x. expr_of x.node.value) (spec.infix_on k (parsers k) outer (expr_of left.node.value) tokens.now) result }
-    ensures height { IfOk result (λ x. (x.0.height ≡ height (expr_of x.0.node.value)) × (left.height < x.0.height) × (x.0.height ≤ k + 1)) }
-    ensures scope { IfOk result (λ x. (outer : names.Scope) → scope.old ≡ outer ++ expr_adds (expr_of left.node.value) → scope.new ≡ outer ++ expr_adds (expr_of x.0.node.value)) }
+    ensures reads { (outer : names.Scope) → scope.old ≡ outer ++ expr_adds (expr_of left.node.value)
+        → Gives (λ x. expr_of x.node.value) (spec.infix_on k (parsers k) outer (expr_of left.node.value) tokens.now)
+        result }
+    ensures height { IfOk result (λ x. (x.0.height ≡ height (expr_of x.0.node.value)) × (left.height < x.0.height)
+        × (x.0.height ≤ k + 1)) }
+    ensures scope { IfOk result (λ x. (outer : names.Scope)
+        → scope.old ≡ outer ++ expr_adds (expr_of left.node.value)
+        → scope.new ≡ outer ++ expr_adds (expr_of x.0.node.value)) }
 {
     match infix_of(tokens) {
         Some(operator) => between_on(alloc, scope, k, left, place(tokens), operator, tail(tokens)),
@@ -183,9 +192,13 @@ fn between_on<'a>(
     requires small { k < 2 ^ 32 }
     requires known { left.height ≡ height (expr_of left.node.value) }
     requires within { left.height ≤ k }
-    ensures reads { Gives (λ x. expr_of x.node.value) (spec.between_in k (parsers k) scope.old (expr_of left.node.value) pos operator tokens.now) result }
-    ensures height { IfOk result (λ x. (x.0.height ≡ height (expr_of x.0.node.value)) × (left.height < x.0.height) × (x.0.height ≤ k + 1)) }
-    ensures scope { IfOk result (λ x. (outer : names.Scope) → scope.old ≡ outer ++ expr_adds (expr_of left.node.value) → scope.new ≡ outer ++ expr_adds (expr_of x.0.node.value)) }
+    ensures reads { Gives (λ x. expr_of x.node.value)
+        (spec.between_in k (parsers k) scope.old (expr_of left.node.value) pos operator tokens.now) result }
+    ensures height { IfOk result (λ x. (x.0.height ≡ height (expr_of x.0.node.value)) × (left.height < x.0.height)
+        × (x.0.height ≤ k + 1)) }
+    ensures scope { IfOk result (λ x. (outer : names.Scope)
+        → scope.old ≡ outer ++ expr_adds (expr_of left.node.value)
+        → scope.new ≡ outer ++ expr_adds (expr_of x.0.node.value)) }
 {
     let (right, rest) = expr(alloc, scope, k, right_level(operator), tokens)?;
     let part = operator::infix(alloc, pos, operator, left, right)?;
@@ -206,9 +219,14 @@ fn cond_on<'a>(
     requires small { k < 2 ^ 32 }
     requires known { left.height ≡ height (expr_of left.node.value) }
     requires within { left.height ≤ k }
-    ensures reads { (outer : names.Scope) → scope.old ≡ outer ++ expr_adds (expr_of left.node.value) → Gives (λ x. expr_of x.node.value) (spec.cond_on k (parsers k) outer (expr_of left.node.value) pos tokens.now) result }
-    ensures height { IfOk result (λ x. (x.0.height ≡ height (expr_of x.0.node.value)) × (left.height < x.0.height) × (x.0.height ≤ k + 1)) }
-    ensures scope { IfOk result (λ x. (outer : names.Scope) → scope.old ≡ outer ++ expr_adds (expr_of left.node.value) → scope.new ≡ outer ++ expr_adds (expr_of x.0.node.value)) }
+    ensures reads { (outer : names.Scope) → scope.old ≡ outer ++ expr_adds (expr_of left.node.value)
+        → Gives (λ x. expr_of x.node.value)
+        (spec.cond_on k (parsers k) outer (expr_of left.node.value) pos tokens.now) result }
+    ensures height { IfOk result (λ x. (x.0.height ≡ height (expr_of x.0.node.value)) × (left.height < x.0.height)
+        × (x.0.height ≤ k + 1)) }
+    ensures scope { IfOk result (λ x. (outer : names.Scope)
+        → scope.old ≡ outer ++ expr_adds (expr_of left.node.value)
+        → scope.new ≡ outer ++ expr_adds (expr_of x.0.node.value)) }
 {
     let (then, rest) = expr(alloc, scope, k, EXPRESSION, tokens)?;
     let rest = expect(rest, Punct::Colon)?;

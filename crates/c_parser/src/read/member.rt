@@ -53,9 +53,14 @@ fn member_on<'a>(
     requires small { k < 2 ^ 32 }
     requires known { specifiers.height ≡ specifiers_height (specifiers_of specifiers.nodes.items) }
     requires within { specifiers.height ≤ k }
-    ensures reads { (outer : names.Scope) → scope.old ≡ outer ++ specifiers_add (specifiers_of specifiers.nodes.items) → Gives (λ x. member_of x.node.value) (spec.member_on k (parsers k) outer (specifiers_of specifiers.nodes.items) tokens.now) result }
+    ensures reads { (outer : names.Scope)
+        → scope.old ≡ outer ++ specifiers_add (specifiers_of specifiers.nodes.items)
+        → Gives (λ x. member_of x.node.value)
+        (spec.member_on k (parsers k) outer (specifiers_of specifiers.nodes.items) tokens.now) result }
     ensures height { IfOk result (λ x. (x.0.height ≡ member_height (member_of x.0.node.value)) × (x.0.height ≤ k + 1)) }
-    ensures scope { IfOk result (λ x. (outer : names.Scope) → scope.old ≡ outer ++ specifiers_add (specifiers_of specifiers.nodes.items) → scope.new ≡ outer ++ member_adds (member_of x.0.node.value)) }
+    ensures scope { IfOk result (λ x. (outer : names.Scope)
+        → scope.old ≡ outer ++ specifiers_add (specifiers_of specifiers.nodes.items)
+        → scope.new ≡ outer ++ member_adds (member_of x.0.node.value)) }
 {
     match tokens {
         [
@@ -84,9 +89,12 @@ fn member_in<'a>(
     requires small { k < 2 ^ 32 }
     requires known { specifiers.height ≡ specifiers_height (specifiers_of specifiers.nodes.items) }
     requires within { specifiers.height ≤ k }
-    ensures reads { Gives (λ x. member_of x.node.value) (spec.member_in k (parsers k) scope.old (specifiers_of specifiers.nodes.items) tokens.now) result }
+    ensures reads { Gives (λ x. member_of x.node.value)
+        (spec.member_in k (parsers k) scope.old (specifiers_of specifiers.nodes.items) tokens.now) result }
     ensures height { IfOk result (λ x. (x.0.height ≡ member_height (member_of x.0.node.value)) × (x.0.height ≤ k + 1)) }
-    ensures scope { IfOk result (λ x. (outer : names.Scope) → scope.old ≡ outer ++ specifiers_add (specifiers_of specifiers.nodes.items) → scope.new ≡ outer ++ member_adds (member_of x.0.node.value)) }
+    ensures scope { IfOk result (λ x. (outer : names.Scope)
+        → scope.old ≡ outer ++ specifiers_add (specifiers_of specifiers.nodes.items)
+        → scope.new ≡ outer ++ member_adds (member_of x.0.node.value)) }
 {
     let (declarators, rest) = listed_declarators(alloc, scope, k, tokens)?;
     let rest = expect(rest, Punct::Semicolon)?;
@@ -103,9 +111,12 @@ fn listed_declarators<'a>(
     tokens: &'a [Token],
 ) -> Result<(Parts<Declarator>, &'a [Token]), Fault<'a>>
     requires { k < 2 ^ 32 }
-    ensures reads { Gives (λ x. (map declarator_of x.nodes.items, false)) (spec.listed_declarators k (parsers k) scope.old tokens.now) result }
-    ensures height { IfOk result (λ x. (x.0.height ≡ declarators_height (declarators (map declarator_of x.0.nodes.items))) × (x.0.height ≤ k)) }
-    ensures scope { IfOk result (λ x. scope.new ≡ scope.old ++ declarators_add (declarators (map declarator_of x.0.nodes.items))) }
+    ensures reads { Gives (λ x. (map declarator_of x.nodes.items, false))
+        (spec.listed_declarators k (parsers k) scope.old tokens.now) result }
+    ensures height { IfOk result (λ x. (x.0.height ≡ declarators_height (declarators (map declarator_of x.0.nodes.items)))
+        × (x.0.height ≤ k)) }
+    ensures scope { IfOk result (λ x. scope.new
+        ≡ scope.old ++ declarators_add (declarators (map declarator_of x.0.nodes.items))) }
 {
     let mut all = Parts::new(alloc);
     let mut rest = tokens;

@@ -30,8 +30,10 @@ pub(crate) fn parameter_at<'a>(
     tokens: &'a [Token],
 ) -> Result<(Part<Parameter>, &'a [Token]), Fault<'a>>
     requires { k < 2 ^ 32 }
-    ensures reads { Gives (λ x. parameter_of x.node.value) (spec.parameter_at k (parsers k) scope.old tokens.now) result }
-    ensures height { IfOk result (λ x. (x.0.height ≡ parameter_height (parameter_of x.0.node.value)) × (x.0.height ≤ k + 1)) }
+    ensures reads { Gives (λ x. parameter_of x.node.value) (spec.parameter_at k (parsers k) scope.old tokens.now)
+        result }
+    ensures height { IfOk result (λ x. (x.0.height ≡ parameter_height (parameter_of x.0.node.value))
+        × (x.0.height ≤ k + 1)) }
     ensures scope { IfOk result (λ x. scope.new ≡ scope.old ++ parameter_adds (parameter_of x.0.node.value)) }
 {
     let (specifiers, rest) = specifiers(alloc, scope, k, tokens)?;

@@ -59,9 +59,13 @@ pub(crate) fn postfixes<'a>(
     requires small { k < 2 ^ 32 }
     requires known { left.height ≡ height (expr_of left.node.value) }
     requires within { left.height ≤ k + 1 }
-    ensures reads { (outer : names.Scope) → scope.old ≡ outer ++ expr_adds (expr_of left.node.value) → Gives (λ x. expr_of x.node.value) (spec.postfixes k (parsers k) outer (expr_of left.node.value) tokens.now) result }
+    ensures reads { (outer : names.Scope) → scope.old ≡ outer ++ expr_adds (expr_of left.node.value)
+        → Gives (λ x. expr_of x.node.value)
+        (spec.postfixes k (parsers k) outer (expr_of left.node.value) tokens.now) result }
     ensures height { IfOk result (λ x. (x.0.height ≡ height (expr_of x.0.node.value)) × (x.0.height ≤ k + 1)) }
-    ensures scope { IfOk result (λ x. (outer : names.Scope) → scope.old ≡ outer ++ expr_adds (expr_of left.node.value) → scope.new ≡ outer ++ expr_adds (expr_of x.0.node.value)) }
+    ensures scope { IfOk result (λ x. (outer : names.Scope)
+        → scope.old ≡ outer ++ expr_adds (expr_of left.node.value)
+        → scope.new ≡ outer ++ expr_adds (expr_of x.0.node.value)) }
 {
     let mut rest = tokens;
     'operators: while goes_postfix(rest) {
@@ -88,9 +92,14 @@ fn postfix_on<'a>(
     requires small { k < 2 ^ 32 }
     requires known { left.height ≡ height (expr_of left.node.value) }
     requires within { left.height ≤ k }
-    ensures reads { (outer : names.Scope) → scope.old ≡ outer ++ expr_adds (expr_of left.node.value) → Gives (λ x. expr_of x.node.value) (spec.postfix_on k (parsers k) outer (expr_of left.node.value) tokens.now) result }
-    ensures height { IfOk result (λ x. (x.0.height ≡ height (expr_of x.0.node.value)) × (left.height < x.0.height) × (x.0.height ≤ k + 1)) }
-    ensures scope { IfOk result (λ x. (outer : names.Scope) → scope.old ≡ outer ++ expr_adds (expr_of left.node.value) → scope.new ≡ outer ++ expr_adds (expr_of x.0.node.value)) }
+    ensures reads { (outer : names.Scope) → scope.old ≡ outer ++ expr_adds (expr_of left.node.value)
+        → Gives (λ x. expr_of x.node.value)
+        (spec.postfix_on k (parsers k) outer (expr_of left.node.value) tokens.now) result }
+    ensures height { IfOk result (λ x. (x.0.height ≡ height (expr_of x.0.node.value)) × (left.height < x.0.height)
+        × (x.0.height ≤ k + 1)) }
+    ensures scope { IfOk result (λ x. (outer : names.Scope)
+        → scope.old ≡ outer ++ expr_adds (expr_of left.node.value)
+        → scope.new ≡ outer ++ expr_adds (expr_of x.0.node.value)) }
 {
     match tokens {
         [
@@ -151,9 +160,13 @@ fn index<'a>(
     requires small { k < 2 ^ 32 }
     requires known { left.height ≡ height (expr_of left.node.value) }
     requires within { left.height ≤ k }
-    ensures reads { Gives (λ x. expr_of x.node.value) (spec.index_in k (parsers k) scope.old (expr_of left.node.value) tokens.now) result }
-    ensures height { IfOk result (λ x. (x.0.height ≡ height (expr_of x.0.node.value)) × (left.height < x.0.height) × (x.0.height ≤ k + 1)) }
-    ensures scope { IfOk result (λ x. (outer : names.Scope) → scope.old ≡ outer ++ expr_adds (expr_of left.node.value) → scope.new ≡ outer ++ expr_adds (expr_of x.0.node.value)) }
+    ensures reads { Gives (λ x. expr_of x.node.value)
+        (spec.index_in k (parsers k) scope.old (expr_of left.node.value) tokens.now) result }
+    ensures height { IfOk result (λ x. (x.0.height ≡ height (expr_of x.0.node.value)) × (left.height < x.0.height)
+        × (x.0.height ≤ k + 1)) }
+    ensures scope { IfOk result (λ x. (outer : names.Scope)
+        → scope.old ≡ outer ++ expr_adds (expr_of left.node.value)
+        → scope.new ≡ outer ++ expr_adds (expr_of x.0.node.value)) }
 {
     let (inside, rest) = expr(alloc, scope, k, EXPRESSION, tail(tokens))?;
     let rest = expect(rest, Punct::CloseBracket)?;
@@ -173,9 +186,13 @@ fn call<'a>(
     requires small { k < 2 ^ 32 }
     requires known { left.height ≡ height (expr_of left.node.value) }
     requires within { left.height ≤ k }
-    ensures reads { Gives (λ x. expr_of x.node.value) (spec.call_in k (parsers k) scope.old (expr_of left.node.value) tokens.now) result }
-    ensures height { IfOk result (λ x. (x.0.height ≡ height (expr_of x.0.node.value)) × (left.height < x.0.height) × (x.0.height ≤ k + 1)) }
-    ensures scope { IfOk result (λ x. (outer : names.Scope) → scope.old ≡ outer ++ expr_adds (expr_of left.node.value) → scope.new ≡ outer ++ expr_adds (expr_of x.0.node.value)) }
+    ensures reads { Gives (λ x. expr_of x.node.value)
+        (spec.call_in k (parsers k) scope.old (expr_of left.node.value) tokens.now) result }
+    ensures height { IfOk result (λ x. (x.0.height ≡ height (expr_of x.0.node.value)) × (left.height < x.0.height)
+        × (x.0.height ≤ k + 1)) }
+    ensures scope { IfOk result (λ x. (outer : names.Scope)
+        → scope.old ≡ outer ++ expr_adds (expr_of left.node.value)
+        → scope.new ≡ outer ++ expr_adds (expr_of x.0.node.value)) }
 {
     let (all, rest) = arguments(alloc, scope, k, tail(tokens))?;
     let part = operator::call(alloc, place(tokens), left, all)?;
@@ -193,7 +210,8 @@ fn arguments<'a>(
 ) -> Result<(Parts<Expr>, &'a [Token]), Fault<'a>>
     requires { k < 2 ^ 32 }
     ensures reads { Gives (λ x. exprs (map expr_of x.nodes.items)) (spec.arguments k (parsers k) scope.old tokens.now) result }
-    ensures height { IfOk result (λ x. (x.0.height ≡ exprs_height (exprs (map expr_of x.0.nodes.items))) × (x.0.height ≤ k)) }
+    ensures height { IfOk result (λ x. (x.0.height ≡ exprs_height (exprs (map expr_of x.0.nodes.items)))
+        × (x.0.height ≤ k)) }
     ensures scope { IfOk result (λ x. scope.new ≡ scope.old ++ exprs_add (exprs (map expr_of x.0.nodes.items))) }
 {
     match tokens {
@@ -222,8 +240,10 @@ fn access_name(
 ) -> Result<(Part<Expr>, &[Token]), Fault<'_>>
     requires known { left.height ≡ height (expr_of left.node.value) }
     requires within { left.height + 1 < 2 ^ 64 }
-    ensures reads { Gives (λ x. expr_of x.node.value) (spec.access_name access (expr_of left.node.value) tokens.now) result }
-    ensures height { IfOk result (λ x. (x.0.height ≡ height (expr_of x.0.node.value)) × (x.0.height ≡ left.height + 1)) }
+    ensures reads { Gives (λ x. expr_of x.node.value) (spec.access_name access (expr_of left.node.value) tokens.now)
+        result }
+    ensures height { IfOk result (λ x. (x.0.height ≡ height (expr_of x.0.node.value))
+        × (x.0.height ≡ left.height + 1)) }
     ensures adds { IfOk result (λ x. expr_adds (expr_of x.0.node.value) ≡ expr_adds (expr_of left.node.value)) }
 {
     match tail(tokens) {
@@ -252,8 +272,10 @@ fn step_by_one(
 ) -> Result<(Part<Expr>, &[Token]), Fault<'_>>
     requires known { left.height ≡ height (expr_of left.node.value) }
     requires within { left.height + 1 < 2 ^ 64 }
-    ensures reads { Gives (λ x. expr_of x.node.value) (spec.step_by_one step (expr_of left.node.value) tokens.now) result }
-    ensures height { IfOk result (λ x. (x.0.height ≡ height (expr_of x.0.node.value)) × (x.0.height ≡ left.height + 1)) }
+    ensures reads { Gives (λ x. expr_of x.node.value) (spec.step_by_one step (expr_of left.node.value) tokens.now)
+        result }
+    ensures height { IfOk result (λ x. (x.0.height ≡ height (expr_of x.0.node.value))
+        × (x.0.height ≡ left.height + 1)) }
     ensures adds { IfOk result (λ x. expr_adds (expr_of x.0.node.value) ≡ expr_adds (expr_of left.node.value)) }
 {
     let part = operator::postfix(alloc, place(tokens), step, left)?;
@@ -269,8 +291,10 @@ fn listed_arguments<'a>(
     tokens: &'a [Token],
 ) -> Result<(Parts<Expr>, &'a [Token]), Fault<'a>>
     requires { k < 2 ^ 32 }
-    ensures reads { Gives (λ x. (map expr_of x.nodes.items, false)) (spec.listed_arguments k (parsers k) scope.old tokens.now) result }
-    ensures height { IfOk result (λ x. (x.0.height ≡ exprs_height (exprs (map expr_of x.0.nodes.items))) × (x.0.height ≤ k)) }
+    ensures reads { Gives (λ x. (map expr_of x.nodes.items, false)) (spec.listed_arguments k (parsers k) scope.old tokens.now)
+        result }
+    ensures height { IfOk result (λ x. (x.0.height ≡ exprs_height (exprs (map expr_of x.0.nodes.items)))
+        × (x.0.height ≤ k)) }
     ensures scope { IfOk result (λ x. scope.new ≡ scope.old ++ exprs_add (exprs (map expr_of x.0.nodes.items))) }
 {
     let mut all = Parts::new(alloc);

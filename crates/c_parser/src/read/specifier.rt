@@ -73,7 +73,8 @@ fn begins_other(scope: &Scope, tokens: &[Token]) -> bool
 
 /// Whether one specifier more stands here.
 fn goes_specifier(scope: &Scope, type_seen: TypeSeen, tokens: &[Token]) -> bool
-    ensures { result ≡ spec.goes_specifier (record { scope = scope.now; type_seen = type_seen }) (next_body tokens.now) }
+    ensures { result ≡ spec.goes_specifier (record { scope = scope.now; type_seen = type_seen })
+        (next_body tokens.now) }
 {
     storage_of(tokens).is_some()
         || qualifier_of(tokens).is_some()
@@ -92,7 +93,8 @@ pub(crate) fn specifiers<'a>(
 ) -> Result<(Parts<Specifier>, &'a [Token]), Fault<'a>>
     requires { h < 2 ^ 32 }
     ensures reads { Gives (λ x. specifiers_of x.nodes.items) ((parsers h).specifiers scope.old tokens.now) result }
-    ensures height { IfOk result (λ x. (x.0.height ≡ specifiers_height (specifiers_of x.0.nodes.items)) × (x.0.height ≤ h)) }
+    ensures height { IfOk result (λ x. (x.0.height ≡ specifiers_height (specifiers_of x.0.nodes.items))
+        × (x.0.height ≤ h)) }
     ensures scope { IfOk result (λ x. scope.new ≡ scope.old ++ specifiers_add (specifiers_of x.0.nodes.items)) }
 {
     let mut all = Parts::new(alloc);
@@ -119,8 +121,10 @@ fn specifier_within<'a>(
     tokens: &'a [Token],
 ) -> Result<(Part<Specifier>, &'a [Token]), Fault<'a>>
     requires { h < 2 ^ 32 }
-    ensures reads { Gives (λ x. specifier_of x.node.value) (spec.specifier_within h scope.old (parser.place tokens.now) (next_body tokens.now) tokens.now) result }
-    ensures height { IfOk result (λ x. (x.0.height ≡ specifier_height (specifier_of x.0.node.value)) × (x.0.height ≤ h)) }
+    ensures reads { Gives (λ x. specifier_of x.node.value)
+        (spec.specifier_within h scope.old (parser.place tokens.now) (next_body tokens.now) tokens.now) result }
+    ensures height { IfOk result (λ x. (x.0.height ≡ specifier_height (specifier_of x.0.node.value))
+        × (x.0.height ≤ h)) }
     ensures scope { IfOk result (λ x. scope.new ≡ scope.old ++ specifier_adds (specifier_of x.0.node.value)) }
 {
     if h == 0 {
@@ -138,8 +142,10 @@ fn specifier_at<'a>(
     tokens: &'a [Token],
 ) -> Result<(Part<Specifier>, &'a [Token]), Fault<'a>>
     requires { k < 2 ^ 32 }
-    ensures reads { Gives (λ x. specifier_of x.node.value) (spec.specifier_by k (parsers k) scope.old (parser.place tokens.now) (next_body tokens.now) tokens.now) result }
-    ensures height { IfOk result (λ x. (x.0.height ≡ specifier_height (specifier_of x.0.node.value)) × (x.0.height ≤ k + 1)) }
+    ensures reads { Gives (λ x. specifier_of x.node.value)
+        (spec.specifier_by k (parsers k) scope.old (parser.place tokens.now) (next_body tokens.now) tokens.now) result }
+    ensures height { IfOk result (λ x. (x.0.height ≡ specifier_height (specifier_of x.0.node.value))
+        × (x.0.height ≤ k + 1)) }
     ensures scope { IfOk result (λ x. scope.new ≡ scope.old ++ specifier_adds (specifier_of x.0.node.value)) }
 {
     match tokens {
@@ -184,7 +190,8 @@ fn low_specifier<'a>(
     alloc: Global,
     tokens: &'a [Token],
 ) -> Result<(Part<Specifier>, &'a [Token]), Fault<'a>>
-    ensures reads { Gives (λ x. specifier_of x.node.value) (spec.low_specifier_by (parser.place tokens.now) (next_body tokens.now) tokens.now) result }
+    ensures reads { Gives (λ x. specifier_of x.node.value)
+        (spec.low_specifier_by (parser.place tokens.now) (next_body tokens.now) tokens.now) result }
     ensures height { IfOk result (λ x. (x.0.height ≡ 0) × (specifier_height (specifier_of x.0.node.value) ≡ 0)) }
     ensures scope { IfOk result (λ x. specifier_adds (specifier_of x.0.node.value) ≡ []) }
 {

@@ -56,9 +56,14 @@ pub(crate) fn suffixes<'a>(
     requires known { left.height ≡ declarator_height (declarator_of left.node.value) }
     requires some { 0 < left.height }
     requires within { left.height ≤ k + 1 }
-    ensures reads { (outer : names.Scope) → scope.old ≡ outer ++ declarator_adds (declarator_of left.node.value) → Gives (λ x. declarator_of x.node.value) (spec.suffixes k (parsers k) outer (declarator_of left.node.value) tokens.now) result }
-    ensures height { IfOk result (λ x. (x.0.height ≡ declarator_height (declarator_of x.0.node.value)) × (x.0.height ≤ k + 1)) }
-    ensures scope { IfOk result (λ x. (outer : names.Scope) → scope.old ≡ outer ++ declarator_adds (declarator_of left.node.value) → scope.new ≡ outer ++ declarator_adds (declarator_of x.0.node.value)) }
+    ensures reads { (outer : names.Scope) → scope.old ≡ outer ++ declarator_adds (declarator_of left.node.value)
+        → Gives (λ x. declarator_of x.node.value)
+        (spec.suffixes k (parsers k) outer (declarator_of left.node.value) tokens.now) result }
+    ensures height { IfOk result (λ x. (x.0.height ≡ declarator_height (declarator_of x.0.node.value))
+        × (x.0.height ≤ k + 1)) }
+    ensures scope { IfOk result (λ x. (outer : names.Scope)
+        → scope.old ≡ outer ++ declarator_adds (declarator_of left.node.value)
+        → scope.new ≡ outer ++ declarator_adds (declarator_of x.0.node.value)) }
 {
     let mut rest = tokens;
     'each: while goes_suffix(rest) {
@@ -85,9 +90,14 @@ pub(crate) fn suffix_on<'a>(
     requires small { k < 2 ^ 32 }
     requires known { left.height ≡ declarator_height (declarator_of left.node.value) }
     requires within { left.height ≤ k }
-    ensures reads { (outer : names.Scope) → scope.old ≡ outer ++ declarator_adds (declarator_of left.node.value) → Gives (λ x. declarator_of x.node.value) (spec.suffix_on k (parsers k) outer (declarator_of left.node.value) tokens.now) result }
-    ensures height { IfOk result (λ x. (x.0.height ≡ declarator_height (declarator_of x.0.node.value)) × (left.height < x.0.height) × (x.0.height ≤ k + 1)) }
-    ensures scope { IfOk result (λ x. (outer : names.Scope) → scope.old ≡ outer ++ declarator_adds (declarator_of left.node.value) → scope.new ≡ outer ++ declarator_adds (declarator_of x.0.node.value)) }
+    ensures reads { (outer : names.Scope) → scope.old ≡ outer ++ declarator_adds (declarator_of left.node.value)
+        → Gives (λ x. declarator_of x.node.value)
+        (spec.suffix_on k (parsers k) outer (declarator_of left.node.value) tokens.now) result }
+    ensures height { IfOk result (λ x. (x.0.height ≡ declarator_height (declarator_of x.0.node.value))
+        × (left.height < x.0.height) × (x.0.height ≤ k + 1)) }
+    ensures scope { IfOk result (λ x. (outer : names.Scope)
+        → scope.old ≡ outer ++ declarator_adds (declarator_of left.node.value)
+        → scope.new ≡ outer ++ declarator_adds (declarator_of x.0.node.value)) }
 {
     match tokens {
         [
@@ -120,9 +130,13 @@ fn array_on<'a>(
     requires small { k < 2 ^ 32 }
     requires known { left.height ≡ declarator_height (declarator_of left.node.value) }
     requires within { left.height ≤ k }
-    ensures reads { Gives (λ x. declarator_of x.node.value) (spec.array_in k (parsers k) scope.old (declarator_of left.node.value) tokens.now) result }
-    ensures height { IfOk result (λ x. (x.0.height ≡ declarator_height (declarator_of x.0.node.value)) × (left.height < x.0.height) × (x.0.height ≤ k + 1)) }
-    ensures scope { IfOk result (λ x. (outer : names.Scope) → scope.old ≡ outer ++ declarator_adds (declarator_of left.node.value) → scope.new ≡ outer ++ declarator_adds (declarator_of x.0.node.value)) }
+    ensures reads { Gives (λ x. declarator_of x.node.value)
+        (spec.array_in k (parsers k) scope.old (declarator_of left.node.value) tokens.now) result }
+    ensures height { IfOk result (λ x. (x.0.height ≡ declarator_height (declarator_of x.0.node.value))
+        × (left.height < x.0.height) × (x.0.height ≤ k + 1)) }
+    ensures scope { IfOk result (λ x. (outer : names.Scope)
+        → scope.old ≡ outer ++ declarator_adds (declarator_of left.node.value)
+        → scope.new ≡ outer ++ declarator_adds (declarator_of x.0.node.value)) }
 {
     match tokens {
         [
@@ -154,7 +168,8 @@ fn length<'a>(
     tokens: &'a [Token],
 ) -> Result<(Part<Expr>, &'a [Token]), Fault<'a>>
     requires { k < 2 ^ 32 }
-    ensures reads { Gives (λ x. expr_of x.node.value) (expr_lower scope.old k ((parsers k).expr scope.old conditional) tokens.now) result }
+    ensures reads { Gives (λ x. expr_of x.node.value)
+        (expr_lower scope.old k ((parsers k).expr scope.old conditional) tokens.now) result }
     ensures height { IfOk result (λ x. (x.0.height ≡ height (expr_of x.0.node.value)) × (x.0.height ≤ k)) }
     ensures scope { IfOk result (λ x. scope.new ≡ scope.old ++ expr_adds (expr_of x.0.node.value)) }
 {
@@ -179,9 +194,13 @@ fn function_on<'a>(
     requires small { k < 2 ^ 32 }
     requires known { left.height ≡ declarator_height (declarator_of left.node.value) }
     requires within { left.height ≤ k }
-    ensures reads { Gives (λ x. declarator_of x.node.value) (spec.function_in k (parsers k) scope.old (declarator_of left.node.value) tokens.now) result }
-    ensures height { IfOk result (λ x. (x.0.height ≡ declarator_height (declarator_of x.0.node.value)) × (left.height < x.0.height) × (x.0.height ≤ k + 1)) }
-    ensures scope { IfOk result (λ x. (outer : names.Scope) → scope.old ≡ outer ++ declarator_adds (declarator_of left.node.value) → scope.new ≡ outer ++ declarator_adds (declarator_of x.0.node.value)) }
+    ensures reads { Gives (λ x. declarator_of x.node.value)
+        (spec.function_in k (parsers k) scope.old (declarator_of left.node.value) tokens.now) result }
+    ensures height { IfOk result (λ x. (x.0.height ≡ declarator_height (declarator_of x.0.node.value))
+        × (left.height < x.0.height) × (x.0.height ≤ k + 1)) }
+    ensures scope { IfOk result (λ x. (outer : names.Scope)
+        → scope.old ≡ outer ++ declarator_adds (declarator_of left.node.value)
+        → scope.new ≡ outer ++ declarator_adds (declarator_of x.0.node.value)) }
 {
     let outer = scope.len();
     let (list, rest) = parameters_at(alloc, scope, k, tokens)?;

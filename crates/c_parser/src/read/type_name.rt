@@ -29,8 +29,10 @@ pub(crate) fn type_name_at<'a>(
     tokens: &'a [Token],
 ) -> Result<(Part<TypeName>, &'a [Token]), Fault<'a>>
     requires { k < 2 ^ 32 }
-    ensures reads { Gives (λ x. type_name_of x.node.value) (spec.type_name_at k (parsers k) scope.old tokens.now) result }
-    ensures height { IfOk result (λ x. (x.0.height ≡ type_name_height (type_name_of x.0.node.value)) × (x.0.height ≤ k + 1)) }
+    ensures reads { Gives (λ x. type_name_of x.node.value) (spec.type_name_at k (parsers k) scope.old tokens.now)
+        result }
+    ensures height { IfOk result (λ x. (x.0.height ≡ type_name_height (type_name_of x.0.node.value))
+        × (x.0.height ≤ k + 1)) }
     ensures scope { IfOk result (λ x. scope.new ≡ scope.old ++ type_name_adds (type_name_of x.0.node.value)) }
 {
     let (specifiers, rest) = specifiers(alloc, scope, k, tokens)?;

@@ -87,7 +87,8 @@ fn inside<'a>(
     tokens: &'a [Token],
 ) -> Result<(Part<Expr>, &'a [Token]), Fault<'a>>
     requires { k < 2 ^ 32 }
-    ensures reads { Gives (λ x. expr_of x.node.value) (spec.inside k (parsers k) scope.old level pos tokens.now) result }
+    ensures reads { Gives (λ x. expr_of x.node.value) (spec.inside k (parsers k) scope.old level pos tokens.now)
+        result }
     ensures height { IfOk result (λ x. (x.0.height ≡ height (expr_of x.0.node.value)) × (x.0.height ≤ k + 1)) }
     ensures scope { IfOk result (λ x. scope.new ≡ scope.old ++ expr_adds (expr_of x.0.node.value)) }
 {
@@ -197,7 +198,9 @@ fn prefix_expr<'a>(
     tokens: &'a [Token],
 ) -> Result<(Part<Expr>, &'a [Token]), Fault<'a>>
     requires { k < 2 ^ 32 }
-    ensures reads { Gives (λ x. expr_of x.node.value) (spec.prefix_expr k (parsers k) scope.old (place tokens.now) (prefix_of (next_body tokens.now)) tokens.now) result }
+    ensures reads { Gives (λ x. expr_of x.node.value)
+        (spec.prefix_expr k (parsers k) scope.old (place tokens.now) (prefix_of (next_body tokens.now)) tokens.now)
+        result }
     ensures height { IfOk result (λ x. (x.0.height ≡ height (expr_of x.0.node.value)) × (x.0.height ≤ k + 1)) }
     ensures scope { IfOk result (λ x. scope.new ≡ scope.old ++ expr_adds (expr_of x.0.node.value)) }
 {
@@ -223,7 +226,8 @@ fn constant<'a>(
     tokens: &'a [Token],
 ) -> Result<(Part<Expr>, &'a [Token]), Fault<'a>>
     requires { k < 2 ^ 32 }
-    ensures reads { Gives (λ x. expr_of x.node.value) (spec.postfixes k (parsers k) scope.old (tree.Const pos constant) tokens.now) result }
+    ensures reads { Gives (λ x. expr_of x.node.value)
+        (spec.postfixes k (parsers k) scope.old (tree.Const pos constant) tokens.now) result }
     ensures height { IfOk result (λ x. (x.0.height ≡ height (expr_of x.0.node.value)) × (x.0.height ≤ k + 1)) }
     ensures scope { IfOk result (λ x. scope.new ≡ scope.old ++ expr_adds (expr_of x.0.node.value)) }
 {
@@ -242,7 +246,8 @@ fn name<'a>(
     tokens: &'a [Token],
 ) -> Result<(Part<Expr>, &'a [Token]), Fault<'a>>
     requires { k < 2 ^ 32 }
-    ensures reads { Gives (λ x. expr_of x.node.value) (spec.postfixes k (parsers k) scope.old (tree.Id pos name.now) tokens.now) result }
+    ensures reads { Gives (λ x. expr_of x.node.value)
+        (spec.postfixes k (parsers k) scope.old (tree.Id pos name.now) tokens.now) result }
     ensures height { IfOk result (λ x. (x.0.height ≡ height (expr_of x.0.node.value)) × (x.0.height ≤ k + 1)) }
     ensures scope { IfOk result (λ x. scope.new ≡ scope.old ++ expr_adds (expr_of x.0.node.value)) }
 {

@@ -132,7 +132,8 @@ pub(crate) fn word_at<'a>(
     alloc: Global,
     tokens: &'a [Token],
 ) -> Result<(Part<Specifier>, &'a [Token]), Fault<'a>>
-    ensures reads { Gives (λ x. specifier_of x.node.value) (spec.word_at (parser.place tokens.now) (next_body tokens.now) tokens.now) result }
+    ensures reads { Gives (λ x. specifier_of x.node.value)
+        (spec.word_at (parser.place tokens.now) (next_body tokens.now) tokens.now) result }
     ensures height { IfOk result (λ x. (x.0.height ≡ 0) × (specifier_height (specifier_of x.0.node.value) ≡ 0)) }
     ensures scope { IfOk result (λ x. specifier_adds (specifier_of x.0.node.value) ≡ []) }
 {
