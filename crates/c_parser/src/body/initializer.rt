@@ -5,6 +5,7 @@ ghost use Rattle.c_parser.specs.Agree.{Gives};
 ghost use Rattle.c_reading.specs.ReadBody as spec;
 ghost use Rattle.c_reading.specs.Parser.{next_body};
 ghost use Rattle.c_syntax.specs.ScopesUnit.{initializer_adds, item_adds, items_add};
+ghost use Rattle.c_syntax.specs.ViewUnit as view;
 ghost use Rattle.c_syntax.specs.ViewUnit.{initializer_of, item_of};
 
 use crate::begins::begins_expr;
@@ -120,7 +121,7 @@ fn listed_items<'a>(
     requires { k < 2 ^ 32 }
     ensures reads { Gives (λ x. (map item_of x.items.items, x.comma))
         (spec.listed_items k (spec.initializers k) scope.old tokens.now) result }
-    ensures scope { IfOk result (λ x. scope.new ≡ scope.old ++ items_add (spec.items (map item_of x.0.items.items))) }
+    ensures scope { IfOk result (λ x. scope.new ≡ scope.old ++ items_add (view.items (map item_of x.0.items.items))) }
 {
     let mut items = Vec::new(alloc);
     let mut rest = tokens;

@@ -4,6 +4,7 @@ ghost use Rattle.std.specs.Prelude.{◌≡◌, ◌^◌, ◌<◌, ◌++◌, map, 
 ghost use Rattle.c_parser.specs.Agree.{Gives};
 ghost use Rattle.c_reading.specs.ReadBody as spec;
 ghost use Rattle.c_syntax.specs.ScopesUnit.{statement_adds};
+ghost use Rattle.c_syntax.specs.ViewUnit as view;
 ghost use Rattle.c_syntax.specs.ViewUnit.{statement_of, switch_item_of};
 
 use crate::body::block::switch_run;
@@ -82,7 +83,7 @@ fn switch_block<'a>(
     tokens: &'a [Token],
 ) -> Result<(Vec<SwitchItem>, &'a [Token]), Fault<'a>>
     requires { k < 2 ^ 32 }
-    ensures reads { Gives (λ x. spec.switch_items (map switch_item_of x.items))
+    ensures reads { Gives (λ x. view.switch_items (map switch_item_of x.items))
         (spec.switch_with (spec.statements k).switch_item scope.old tokens.now) result }
     ensures scope { IfOk result (λ x. scope.new ≡ scope.old) }
 {
