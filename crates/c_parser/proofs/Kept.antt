@@ -1,9 +1,9 @@
 -- What the program knows of a scope's names, as entries come and go.
 use Rattle.std.proofs.Common.{◌≡◌, ℕ, Bool, true, false, cond, List, [], ◌∷◌, ◌++◌, map, Option, Some, None, Result}
-use Rattle.std.proofs.Common.{Ok, Err, refl, sym, ◌∙◌, ap}
+use Rattle.std.proofs.Common.{Ok, Err, refl, sym, ◌∙◌, ap, subst}
 use Rattle.std.specs.BTreeMap.{BTreeMap, get, Updates}
 use Rattle.std.specs.Cmp.Lexicographic.{slice_cmp, texts_ties}
-use Rattle.std.specs.Option.{unwrap_or}
+use Rattle.std.specs.Option.{unwrap_or, option_to_list}
 use Rattle.std.specs.Ordering.{nat_cmp, is_eq}
 use Rattle.std.specs.Result.{OnOk, OnErr}
 use Rattle.std.specs.Str.{bytes_eq}
@@ -57,7 +57,7 @@ behind_hidden : (before : Known) (last : Entry) (x : List ℕ) → last.hidden �
 behind_hidden before last x here true same = here ∙ ap before ((bytes_eq-Decides last.name x).0 same)
 behind_hidden before last x here false same = refl
 
-pub kept_less : (entries : List Entry) (last : Entry) (old new : BTreeMap (List ℕ) Bool)
+kept_less : (entries : List Entry) (last : Entry) (old new : BTreeMap (List ℕ) Bool)
     → IsKept (entries ++ last ∷ []) old → Updates (slice_cmp nat_cmp) old new last.name last.hidden → IsKept entries new
 kept_less entries last old new kept updates = record {
   known = λ x. updates.0 x ∙ ap (λ here. cond here last.hidden (get (slice_cmp nat_cmp) old x)) (found_at last.name x)
@@ -76,14 +76,37 @@ kept_last entries last names kept =
     ((bytes_eq-Decides last.name last.name).1 refl)
 
 -- so that what it hid goes in its place without fail
-pub kept_put : {A E : Type 0} (result : Result A E) (entries : List Entry) (last : Entry)
+put_back : {A E : Type 0} (result : Result A E) (entries : List Entry) (last : Entry)
     (old new : BTreeMap (List ℕ) Bool)
     → OnOk result (Updates (slice_cmp nat_cmp) old new last.name last.hidden)
     → OnErr result (get (slice_cmp nat_cmp) old last.name ≡ None) → IsKept (entries ++ last ∷ []) old
     → IsKept entries new
-kept_put (Ok value) entries last old new updates absent kept = kept_less entries last old new kept updates
-kept_put (Err fault) entries last old new updates absent kept =
+put_back (Ok value) entries last old new updates absent kept = kept_less entries last old new kept updates
+put_back (Err fault) entries last old new updates absent kept =
     let found : Some last.names_type ≡ None = sym (kept_last entries last old kept) ∙ absent in cc
+
+-- ---- the last entry is taken away, which hid this
+
+pub last_popped : (entries all : List Entry) (popped : Option Entry) (last : Entry)
+    → all ≡ entries ++ option_to_list popped → popped ≡ Some last → all ≡ entries ++ last ∷ []
+last_popped entries all popped last items is = items ∙ ap (λ popped. entries ++ option_to_list popped) is
+
+module _ (entries all : List Entry) (last : Entry) (hidden : Option Bool) (old new : BTreeMap (List ℕ) Bool)
+    (items : all ≡ entries ++ last ∷ []) (hid : last.hidden ≡ hidden) (kept : IsKept all old) where
+  -- the name goes from the map
+  pub kept_removed : Updates (slice_cmp nat_cmp) old new last.name hidden → IsKept entries new
+  kept_removed updates =
+      kept_less entries last old new (subst (λ all. IsKept all old) items kept)
+      (subst (λ hidden. Updates (slice_cmp nat_cmp) old new last.name hidden) (sym hid) updates)
+
+  -- or gets back what it was
+  pub kept_put : {A E : Type 0} (result : Result A E)
+      → OnOk result (Updates (slice_cmp nat_cmp) old new last.name hidden)
+      → OnErr result (get (slice_cmp nat_cmp) old last.name ≡ None) → IsKept entries new
+  kept_put result updates absent =
+      put_back result entries last old new
+      (subst (λ hidden. OnOk result (Updates (slice_cmp nat_cmp) old new last.name hidden)) (sym hid) updates)
+      absent (subst (λ all. IsKept all old) items kept)
 
 -- ---- a look-up
 

@@ -7,6 +7,7 @@ mod Pushed
 mod PushedDeclarator
 mod Adding
 mod ManyTurns
+mod ItemTurns
 mod SpecifierTurns
 mod ClimbTurns
 mod ListTurns

@@ -200,19 +200,27 @@ pub record Statements : Type 0 where
   pub block_item : Scope → Parser BlockItem
   pub switch_item : Scope → Parser SwitchItem
 
--- the items of a block, up to the token that ends it
+-- the items of a block or of a switch, each with the names that it adds, up to the token that ends them
+abbrev pub item_run : {A : Type 0} → (A → Scope) → (Scope → Parser A) → Scope → Parser (List A)
+item_run adds item = many goes_item item (λ s one. s ++ adds one)
+
+-- and the brace behind them
+abbrev pub items_with : {A L : Type 0} → (A → Scope) → (List A → L) → (Scope → Parser A) → Scope → Parser L
+items_with adds make item scope =
+    item_run adds item scope >>= λ all. expect (is_mark p.CloseBrace) >>= λ _. pure (make all)
+
 abbrev pub block_run : (Scope → Parser BlockItem) → Scope → Parser (List BlockItem)
-block_run item = many goes_item item (λ s one. s ++ block_item_adds one)
+block_run = item_run block_item_adds
 
 abbrev pub switch_run : (Scope → Parser SwitchItem) → Scope → Parser (List SwitchItem)
-switch_run item = many goes_item item (λ s one. s ++ switch_item_adds one)
+switch_run = item_run switch_item_adds
 
 -- behind an opening brace
 unfoldable pub block_with : (Scope → Parser BlockItem) → Scope → Parser BlockItems
-block_with item scope = block_run item scope >>= λ all. expect (is_mark p.CloseBrace) >>= λ _. pure (block_items all)
+block_with item scope = items_with block_item_adds block_items item scope
 
 unfoldable pub switch_with : (Scope → Parser SwitchItem) → Scope → Parser SwitchItems
-switch_with item scope = switch_run item scope >>= λ all. expect (is_mark p.CloseBrace) >>= λ _. pure (switch_items all)
+switch_with item scope = items_with switch_item_adds switch_items item scope
 
 -- behind the word of a statement that has nothing but a mark behind it
 abbrev pub jump_on : Statement → Parser Statement

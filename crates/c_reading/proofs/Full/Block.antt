@@ -1,24 +1,24 @@
 -- A block is read as it where its items are, and the expressions that stand in statements are read.
-use Rattle.std.proofs.Common.{◌≡◌, ◌⊎◌, inr, ℕ, ◌≤◌, ◌<◌, List, [], ◌∷◌, ◌++◌, true, false, Option, Some, None, refl}
-use Rattle.std.proofs.Common.{◌∙◌, ap, arith}
+use Rattle.std.proofs.Common.{◌≡◌, ◌⊎◌, inr, ℕ, ◌≤◌, ◌<◌, List, [], ◌∷◌, ◌++◌, Bool, true, false, Option, Some, None}
+use Rattle.std.proofs.Common.{refl, sym, ◌∙◌, ap, subst, arith}
 use Rattle.c_lexer.specs.declared.punct.Punct.{Punct}
 use Rattle.c_lexer.specs.declared.punct.Punct.TheVariants as p
 use Rattle.c_lexer.specs.declared.token.Token.{Token}
+use Rattle.c_lexer.specs.declared.token.Body.{Body}
 use Rattle.c_lexer.specs.declared.token.Body.TheVariants as lexeme
 use Rattle.c_lexer.specs.declared.word.Word.TheVariants as w
+use Rattle.c_syntax.specs.declared.spelled.Spelled.{Spelled}
 use Rattle.c_syntax.specs.Height.{height}
 use Rattle.c_syntax.specs.HeightUnit.{optional_height, statement_height, block_item_height, block_items_height}
 use Rattle.c_syntax.specs.HeightUnit.{switch_item_height, switch_items_height}
 use Rattle.c_syntax.specs.Levels.{expression}
-use Rattle.c_reading.specs.Parser.{Found, next_body, tail}
-use Rattle.c_reading.specs.ReadBody.{begins_block_item, begins_switch_item, goes_item, Statements, block_with}
-use Rattle.c_reading.specs.ReadBody.{switch_with, an_expr, optional, controlling}
-use Rattle.c_syntax.specs.ViewUnit.{switch_items}
+use Rattle.c_reading.specs.Parser.{Parser, Found, next_body, tail}
+use Rattle.c_reading.specs.ReadBody.{begins_block_item, begins_switch_item, goes_item, items_with, Statements}
+use Rattle.c_reading.specs.ReadBody.{block_with, switch_with, an_expr, optional, controlling}
 use Rattle.c_reading.specs.ReadExpr.{begins_expr}
 use Rattle.c_reading.specs.ReadSpecifier.{parsers}
 use Rattle.c_reading.specs.ReadToken.{is_mark, is_word, begins_type}
 use Rattle.c_syntax.specs.Scopes.{Scope}
-use Rattle.c_syntax.specs.ScopesUnit.{block_item_adds, switch_item_adds}
 use Rattle.c_syntax.specs.Spelling.{spell}
 use Rattle.c_syntax.specs.SpellingUnit.{spell_optional, spell_controlling, spell_statement, spell_block_item}
 use Rattle.c_syntax.specs.SpellingUnit.{spell_block_items, spell_switch_item, spell_switch_items}
@@ -26,7 +26,6 @@ use Rattle.c_syntax.specs.Tokens.{mark}
 use Rattle.c_syntax.specs.Tree.{Expr}
 use Rattle.c_syntax.specs.TreeUnit as unit
 use Rattle.c_syntax.specs.TreeUnit.{Statement, BlockItem, BlockItems, SwitchItem, SwitchItems}
-use Rattle.c_syntax.specs.ViewUnit.{block_items}
 use Rattle.c_syntax.specs.WellFormed.{IsExpr}
 use Rattle.c_syntax.specs.WellFormedUnit.{IsOptional, IsClosed, IsStatement, IsBlockItem, AreBlockItems, IsSwitchItem}
 use Rattle.c_syntax.specs.WellFormedUnit.{AreSwitchItems}
@@ -39,6 +38,7 @@ use Rattle.c_reading.proofs.FirstTokens.{expr_begins, begins_no_type}
 use Rattle.c_reading.proofs.Full.Law.{EndsExpr}
 use Rattle.c_reading.proofs.Full.Declarator.{parsers_full}
 use Rattle.c_syntax.proofs.HeightLaws.{expr_high}
+use Rattle.c_reading.proofs.ItemList.{ItemList, block_list, switch_list}
 use Rattle.c_reading.proofs.Takes.{Takes, takes_parted}
 
 -- no `else` comes that the statement could take
@@ -94,42 +94,7 @@ optional_no_type None scope tokens mid is close all = ap (λ ts. begins_type sco
     ∙ ap (begins_type scope) close
 optional_no_type (Some e) scope tokens mid is close all = begins_no_type e scope expression tokens mid is all
 
--- ---- lists of items
-
-abbrev listed_items : BlockItems → List BlockItem
-listed_items unit.NoBlockItem = []
-listed_items (unit.MoreBlockItems first rest) = first ∷ listed_items rest
-
-items_again : (all : BlockItems) → block_items (listed_items all) ≡ all
-items_again unit.NoBlockItem = refl
-items_again (unit.MoreBlockItems first rest) = ap (unit.MoreBlockItems first) (items_again rest)
-
-abbrev listed_switch : SwitchItems → List SwitchItem
-listed_switch unit.NoSwitchItem = []
-listed_switch (unit.MoreSwitchItems first rest) = first ∷ listed_switch rest
-
-switch_items_again : (all : SwitchItems) → switch_items (listed_switch all) ≡ all
-switch_items_again unit.NoSwitchItem = refl
-switch_items_again (unit.MoreSwitchItems first rest) = ap (unit.MoreSwitchItems first) (switch_items_again rest)
-
--- what stands in a block begins with no `else`
-items_no_else : (all : BlockItems) (scope : Scope) (tokens rest : List Token) → AreBlockItems all scope
-    → next_body rest ≡ Some (lexeme.Mark p.CloseBrace) → Takes tokens (spell_block_items all) rest
-    → is_word w.Else (next_body tokens) ≡ false
-items_no_else unit.NoBlockItem scope tokens rest are close all = ap (λ ts. is_word w.Else (next_body ts)) all
-    ∙ ap (is_word w.Else) close
-items_no_else (unit.MoreBlockItems first more) scope tokens rest are close all =
-    let x = takes_parted tokens rest (spell_block_item first) (spell_block_items more) all in
-    no_else (begins_block_item scope) (next_body tokens) refl (block_item_begins first scope tokens x.mid are.0 x.one)
-
-switch_no_else : (all : SwitchItems) (scope : Scope) (tokens rest : List Token) → AreSwitchItems all scope
-    → next_body rest ≡ Some (lexeme.Mark p.CloseBrace) → Takes tokens (spell_switch_items all) rest
-    → is_word w.Else (next_body tokens) ≡ false
-switch_no_else unit.NoSwitchItem scope tokens rest are close all = ap (λ ts. is_word w.Else (next_body ts)) all
-    ∙ ap (is_word w.Else) close
-switch_no_else (unit.MoreSwitchItems first more) scope tokens rest are close all =
-    let x = takes_parted tokens rest (spell_switch_item first) (spell_switch_items more) all in
-    no_else (begins_switch_item scope) (next_body tokens) refl (switch_item_begins first scope tokens x.mid are.0 x.one)
+-- ---- the items of a block or of a switch
 
 may_follow : (one : BlockItem) (rest : List Token) → is_word w.Else (next_body rest) ≡ false → MayFollowItem one rest
 may_follow (unit.Declared one) rest none = tt
@@ -142,66 +107,108 @@ may_follow_switch (unit.Case pos value) rest none = tt
 may_follow_switch (unit.Default pos) rest none = tt
 may_follow_switch (unit.InBlock one) rest none = may_follow one rest none
 
-module _ (k : ℕ) (low : Statements) (full : FullStatements k low) where
-  each_item : (all : BlockItems) (scope : Scope) (tokens rest : List Token) → AreBlockItems all scope
-      → block_items_height all ≤ k → next_body rest ≡ Some (lexeme.Mark p.CloseBrace)
-      → Takes tokens (spell_block_items all) rest
-      → Each goes_item low.block_item (λ s one. s ++ block_item_adds one) (listed_items all) scope tokens rest
-  each_item unit.NoBlockItem scope tokens rest are high close all = (all, ap (goes_item scope) close)
-  each_item (unit.MoreBlockItems first more) scope tokens rest are high close all =
-      let x = takes_parted tokens rest (spell_block_item first) (spell_block_items more) all in
-      let begins = block_item_begins first scope tokens x.mid are.0 x.one in
-      let may = may_follow first x.mid (items_no_else more (scope ++ block_item_adds first) x.mid rest are.1 close
-      x.two) in (
-        x.mid,
-        item_goes scope (begins_block_item scope) (next_body tokens) refl refl begins,
-        full.block_item scope first tokens x.mid are.0 (omega arith) may x.one,
-        (takes_some tokens x.mid (spell_block_item first) (some_block_item first scope are.0) x.one).1,
-        each_item more (scope ++ block_item_adds first) x.mid rest are.1 (omega arith) close x.two,
-      )
+-- how an item begins, that it has a token, and that what is no `else` may stand behind it
+record ItemStarts {A : Type 0} (Fits : A → Scope → Type 0) (spelled : A → List Spelled) (begins : Scope → Option Body
+    → Bool) (MayStand : A → List Token → Type 0) : Type 0 where
+  pub starts : (one : A) (scope : Scope) (tokens rest : List Token) → Fits one scope → Takes tokens (spelled one) rest
+      → begins scope (next_body tokens) ≡ true
+  pub starts_none : (scope : Scope) → begins scope None ≡ false
+  pub starts_brace : (scope : Scope) → begins scope (Some (lexeme.Mark p.CloseBrace)) ≡ false
+  pub starts_else : (scope : Scope) → begins scope (Some (lexeme.Word w.Else)) ≡ false
+  pub some : (one : A) (scope : Scope) → Fits one scope → spelled one ≡ [] → ⊥
+  pub follows : (one : A) (rest : List Token) → is_word w.Else (next_body rest) ≡ false → MayStand one rest
 
+block_starts : ItemStarts IsBlockItem spell_block_item begins_block_item MayFollowItem
+block_starts = record {
+  starts = block_item_begins;
+  starts_none = λ scope. refl;
+  starts_brace = λ scope. refl;
+  starts_else = λ scope. refl;
+  some = some_block_item;
+  follows = may_follow;
+}
+
+switch_starts : ItemStarts IsSwitchItem spell_switch_item begins_switch_item MayFollowSwitch
+switch_starts = record {
+  starts = switch_item_begins;
+  starts_none = λ scope. refl;
+  starts_brace = λ scope. refl;
+  starts_else = λ scope. refl;
+  some = some_switch_item;
+  follows = may_follow_switch;
+}
+
+module _ {A L : Type 0} {Fits : A → Scope → Type 0} {tall : A → ℕ} {spelled : A → List Spelled} {adds : A
+    → Scope} {AllFit : L → Scope → Type 0} {tallest : L → ℕ} {all_spelled : L → List Spelled} {make : List A → L}
+    {begins : Scope → Option Body → Bool} {MayStand : A → List Token → Type 0}
+    (list : ItemList Fits tall spelled adds AllFit tallest all_spelled make)
+    (item_starts : ItemStarts Fits spelled begins MayStand) where
+  -- what stands in a block begins with no `else`
+  items_no_else : (all : List A) (scope : Scope) (tokens rest : List Token) → AllFit (make all) scope
+      → next_body rest ≡ Some (lexeme.Mark p.CloseBrace) → Takes tokens (all_spelled (make all)) rest
+      → is_word w.Else (next_body tokens) ≡ false
+  items_no_else [] scope tokens rest are close all =
+      let same : tokens ≡ rest = subst (λ spelled. Takes tokens spelled rest) list.none_spelled all in
+      ap (λ ts. is_word w.Else (next_body ts)) same ∙ ap (is_word w.Else) close
+  items_no_else (first ∷ more) scope tokens rest are close all =
+      let x = takes_parted tokens rest (spelled first) (all_spelled (make more))
+      (subst (λ spelled. Takes tokens spelled rest) (list.more_spelled first more) all) in
+      no_else (begins scope) (next_body tokens) (item_starts.starts_else scope)
+      (item_starts.starts first scope tokens x.mid (list.parts_fit first more scope are).0 x.one)
+
+  module _ (k : ℕ) (item : Scope → Parser A)
+      (full : (scope : Scope) (one : A) (tokens rest : List Token) → Fits one scope → tall one ≤ k
+      → MayStand one rest → Takes tokens (spelled one) rest → item scope tokens ≡ Found one rest) where
+    each_item : (all : List A) (scope : Scope) (tokens rest : List Token) → AllFit (make all) scope
+        → tallest (make all) ≤ k → next_body rest ≡ Some (lexeme.Mark p.CloseBrace)
+        → Takes tokens (all_spelled (make all)) rest
+        → Each goes_item item (λ s one. s ++ adds one) all scope tokens rest
+    each_item [] scope tokens rest are high close all =
+        (subst (λ spelled. Takes tokens spelled rest) list.none_spelled all, ap (goes_item scope) close)
+    each_item (first ∷ more) scope tokens rest are high close all =
+        let fit = list.parts_fit first more scope are in
+        let x = takes_parted tokens rest (spelled first) (all_spelled (make more))
+        (subst (λ spelled. Takes tokens spelled rest) (list.more_spelled first more) all) in
+        let starts = item_starts.starts first scope tokens x.mid fit.0 x.one in
+        let follows = item_starts.follows first x.mid
+        (items_no_else more (scope ++ adds first) x.mid rest fit.1 close x.two) in
+        (
+          x.mid,
+          item_goes scope (begins scope) (next_body tokens) (item_starts.starts_none scope)
+              (item_starts.starts_brace scope) starts,
+          full scope first tokens x.mid fit.0 (omega (arith, high, list.more_high first more)) follows x.one,
+          (takes_some tokens x.mid (spelled first) (item_starts.some first scope fit.0) x.one).1,
+          each_item more (scope ++ adds first) x.mid rest fit.1 (omega (arith, high, list.more_high first more)) close
+              x.two,
+        )
+
+    items_again : (all : L) (scope : Scope) (tokens rest : List Token) → AllFit all scope → tallest all ≤ k
+        → Takes tokens (all_spelled all ++ mark p.CloseBrace ∷ []) rest
+        → items_with adds make item scope tokens ≡ Found all rest
+    items_again all scope tokens rest are high takes =
+        let made = sym (list.made all) in
+        let x = takes_parted tokens rest (all_spelled all) (mark p.CloseBrace ∷ []) takes in
+        let g = front x.mid rest (mark p.CloseBrace ∷ []) x.two in
+        then_read _ _ (list.parts all) x.mid _
+        (many_again goes_item item (λ s one. s ++ adds one) (list.parts all) scope tokens x.mid
+        (each_item (list.parts all) scope tokens x.mid (subst (λ all. AllFit all scope) made are)
+        (subst (λ all. tallest all ≤ k) made high) g.0
+        (subst (λ all. Takes tokens (all_spelled all) x.mid) made x.one)))
+        (expect_again (is_mark p.CloseBrace) _ x.mid _ _ refl g.0
+        (ap (λ all. Found all (tail x.mid)) (list.made all) ∙ ap (λ ts. Found all ts) g.2))
+
+module _ (k : ℕ) (low : Statements) (full : FullStatements k low) where
   pub block_again : (all : BlockItems) (scope : Scope) (tokens rest : List Token) → AreBlockItems all scope
       → block_items_height all ≤ k → Takes tokens (spell_block_items all ++ mark p.CloseBrace ∷ []) rest
       → block_with low.block_item scope tokens ≡ Found all rest
   unfolding block_with
-  block_again all scope tokens rest are high takes =
-      let x = takes_parted tokens rest (spell_block_items all) (mark p.CloseBrace ∷ []) takes in
-      let g = front x.mid rest (mark p.CloseBrace ∷ []) x.two in
-      then_read _ _ (listed_items all) x.mid _
-      (many_again goes_item low.block_item (λ s one. s ++ block_item_adds one) (listed_items all) scope tokens
-      x.mid (each_item all scope tokens x.mid are high g.0 x.one))
-      (expect_again (is_mark p.CloseBrace) _ x.mid _ _ refl g.0
-      (ap (λ all. Found all (tail x.mid)) (items_again all) ∙ ap (λ ts. Found all ts) g.2))
-
-  each_switch : (all : SwitchItems) (scope : Scope) (tokens rest : List Token) → AreSwitchItems all scope
-      → switch_items_height all ≤ k → next_body rest ≡ Some (lexeme.Mark p.CloseBrace)
-      → Takes tokens (spell_switch_items all) rest
-      → Each goes_item low.switch_item (λ s one. s ++ switch_item_adds one) (listed_switch all) scope tokens rest
-  each_switch unit.NoSwitchItem scope tokens rest are high close all = (all, ap (goes_item scope) close)
-  each_switch (unit.MoreSwitchItems first more) scope tokens rest are high close all =
-      let x = takes_parted tokens rest (spell_switch_item first) (spell_switch_items more) all in
-      let begins = switch_item_begins first scope tokens x.mid are.0 x.one in
-      let may = may_follow_switch first x.mid
-      (switch_no_else more (scope ++ switch_item_adds first) x.mid rest are.1 close x.two) in (
-        x.mid,
-        item_goes scope (begins_switch_item scope) (next_body tokens) refl refl begins,
-        full.switch_item scope first tokens x.mid are.0 (omega arith) may x.one,
-        (takes_some tokens x.mid (spell_switch_item first) (some_switch_item first scope are.0) x.one).1,
-        each_switch more (scope ++ switch_item_adds first) x.mid rest are.1 (omega arith) close x.two,
-      )
+  block_again = items_again block_list block_starts k low.block_item full.block_item
 
   pub switch_again : (all : SwitchItems) (scope : Scope) (tokens rest : List Token) → AreSwitchItems all scope
       → switch_items_height all ≤ k → Takes tokens (spell_switch_items all ++ mark p.CloseBrace ∷ []) rest
       → switch_with low.switch_item scope tokens ≡ Found all rest
   unfolding switch_with
-  switch_again all scope tokens rest are high takes =
-      let x = takes_parted tokens rest (spell_switch_items all) (mark p.CloseBrace ∷ []) takes in
-      let g = front x.mid rest (mark p.CloseBrace ∷ []) x.two in
-      then_read _ _ (listed_switch all) x.mid _
-      (many_again goes_item low.switch_item (λ s one. s ++ switch_item_adds one) (listed_switch all) scope
-      tokens x.mid (each_switch all scope tokens x.mid are high g.0 x.one))
-      (expect_again (is_mark p.CloseBrace) _ x.mid _ _ refl g.0
-      (ap (λ all. Found all (tail x.mid)) (switch_items_again all) ∙ ap (λ ts. Found all ts) g.2))
+  switch_again = items_again switch_list switch_starts k low.switch_item full.switch_item
 
   -- ---- parts of statements
 

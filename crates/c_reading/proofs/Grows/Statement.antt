@@ -1,5 +1,5 @@
 -- Statements and the unit are read the same with more height.
-use Rattle.std.proofs.Common.{ℕ, zero, suc, ◌≤◌, Bool, true, false, [], ◌∷◌, ◌++◌, Option, Some, None, is_some, arith}
+use Rattle.std.proofs.Common.{ℕ, zero, suc, ◌≤◌, Bool, true, false, List, [], ◌∷◌, ◌++◌, Option, Some, None, is_some, arith}
 use Rattle.critical_table.specs.declared.pos.Pos.{Pos}
 use Rattle.c_lexer.specs.declared.punct.Punct.TheVariants as p
 use Rattle.c_lexer.specs.declared.token.Body.{Body}
@@ -11,7 +11,7 @@ use Rattle.c_syntax.specs.TreeUnit.{Statement, BlockItem, SwitchItem}
 use Rattle.c_syntax.specs.Levels.{expression, conditional}
 use Rattle.c_reading.specs.Parser.{Parser, ◌>>=◌, pure, skip, expect}
 use Rattle.c_reading.specs.ReadBody.{begins_statement, begins_block_item, begins_switch_item, Statements, goes_item}
-use Rattle.c_reading.specs.ReadBody.{block_with, switch_with, an_expr, optional, controlling, else_by, if_on}
+use Rattle.c_reading.specs.ReadBody.{items_with, block_with, switch_with, an_expr, optional, controlling, else_by, if_on}
 use Rattle.c_reading.specs.ReadBody.{switch_on, while_on, do_on, for_init_by, for_init, for_on, statement_by}
 use Rattle.c_reading.specs.ReadBody.{statement_at, block_item_at, case_on, switch_item_at, lowest_statements}
 use Rattle.c_reading.specs.ReadBody.{statements, block_lower, is_body, function_scope, external_declared, external_on}
@@ -36,19 +36,22 @@ pub record StatementsGrown (r s : Statements) : Type 0 where
   pub block_item : (scope : Scope) → Grown (r.block_item scope) (s.block_item scope)
   pub switch_item : (scope : Scope) → Grown (r.switch_item scope) (s.switch_item scope)
 
+items_grown : {A L : Type 0} (adds : A → Scope) (make : List A → L) (item item' : Scope → Parser A)
+    → ((scope : Scope) → Grown (item scope) (item' scope)) → (scope : Scope)
+    → Grown (items_with adds make item scope) (items_with adds make item' scope)
+items_grown adds make item item' on scope =
+    grown_then _ _ (λ all. expect (is_mark p.CloseBrace) >>= λ _. pure (make all))
+    (many_grown goes_item item item' (λ s one. s ++ adds one) on scope)
+
 block_with_grown : (item item' : Scope → Parser BlockItem) → ((scope : Scope) → Grown (item scope) (item' scope))
     → (scope : Scope) → Grown (block_with item scope) (block_with item' scope)
 unfolding block_with
-block_with_grown item item' on scope =
-    grown_then _ _ (λ all. expect (is_mark p.CloseBrace) >>= λ _. pure (block_items all))
-    (many_grown goes_item item item' (λ s one. s ++ block_item_adds one) on scope)
+block_with_grown = items_grown block_item_adds block_items
 
 switch_with_grown : (item item' : Scope → Parser SwitchItem) → ((scope : Scope) → Grown (item scope) (item' scope))
     → (scope : Scope) → Grown (switch_with item scope) (switch_with item' scope)
 unfolding switch_with
-switch_with_grown item item' on scope =
-    grown_then _ _ (λ all. expect (is_mark p.CloseBrace) >>= λ _. pure (switch_items all))
-    (many_grown goes_item item item' (λ s one. s ++ switch_item_adds one) on scope)
+switch_with_grown = items_grown switch_item_adds switch_items
 
 module _ (k k' : ℕ) (le : k ≤ k') (low low' : Statements) (on : StatementsGrown low low') where
   an_expr_grown : (scope : Scope) → Grown (an_expr k low scope) (an_expr k' low' scope)

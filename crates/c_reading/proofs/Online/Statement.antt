@@ -1,5 +1,5 @@
 -- Statements and the unit are read online.
-use Rattle.std.proofs.Common.{ℕ, zero, suc, Bool, true, false, [], ◌∷◌, ◌++◌, Option, Some, None, is_some, refl}
+use Rattle.std.proofs.Common.{ℕ, zero, suc, Bool, true, false, List, [], ◌∷◌, ◌++◌, Option, Some, None, is_some, refl}
 use Rattle.critical_table.specs.declared.pos.Pos.{Pos}
 use Rattle.c_lexer.specs.declared.punct.Punct.TheVariants as p
 use Rattle.c_lexer.specs.declared.token.Body.{Body}
@@ -11,7 +11,8 @@ use Rattle.c_syntax.specs.TreeUnit.{Statement, BlockItem, SwitchItem, External}
 use Rattle.c_syntax.specs.Levels.{expression, conditional}
 use Rattle.c_reading.specs.Parser.{Parser, Unfit, TooDeep, ◌>>=◌, pure, fail, peek, skip, choose, deeper, expect}
 use Rattle.c_reading.specs.ReadBody.{unless_deep, begins_statement, begins_block_item, begins_switch_item}
-use Rattle.c_reading.specs.ReadBody.{declaration_at, assert_at, Statements, goes_item, block_with, switch_with}
+use Rattle.c_reading.specs.ReadBody.{declaration_at, assert_at, Statements, goes_item, items_with, block_with}
+use Rattle.c_reading.specs.ReadBody.{switch_with}
 use Rattle.c_reading.specs.ReadBody.{an_expr, optional, controlling, else_by, if_on, switch_on, while_on, do_on}
 use Rattle.c_reading.specs.ReadBody.{for_init_by, for_init, for_on, statement_by, statement_at, block_item_at}
 use Rattle.c_reading.specs.ReadBody.{case_on, switch_item_at, statements, block_lower, is_body, function_scope}
@@ -42,21 +43,23 @@ pub record StatementsOnline (r : Statements) : Type 0 where
   pub block_item_takes : (scope : Scope) → TakesOne (r.block_item scope)
   pub switch_item_takes : (scope : Scope) → TakesOne (r.switch_item scope)
 
+items_online : {A L : Type 0} (adds : A → Scope) (make : List A → L) (item : Scope → Parser A)
+    → ((scope : Scope) → Online (item scope)) → ((scope : Scope) → TakesOne (item scope)) → (scope : Scope)
+    → Online (items_with adds make item scope)
+items_online adds make item on takes scope =
+    online_before _ (is_mark p.CloseBrace) _
+    (many_online goes_item item (λ s one. s ++ adds one) on (λ s. refl) takes scope)
+    (λ all. online_pure (make all))
+
 block_with_online : (item : Scope → Parser BlockItem) → ((scope : Scope) → Online (item scope))
     → ((scope : Scope) → TakesOne (item scope)) → (scope : Scope) → Online (block_with item scope)
 unfolding block_with
-block_with_online item on takes scope =
-    online_before _ (is_mark p.CloseBrace) _
-    (many_online goes_item item (λ s one. s ++ block_item_adds one) on (λ s. refl) takes scope)
-    (λ all. online_pure (block_items all))
+block_with_online = items_online block_item_adds block_items
 
 switch_with_online : (item : Scope → Parser SwitchItem) → ((scope : Scope) → Online (item scope))
     → ((scope : Scope) → TakesOne (item scope)) → (scope : Scope) → Online (switch_with item scope)
 unfolding switch_with
-switch_with_online item on takes scope =
-    online_before _ (is_mark p.CloseBrace) _
-    (many_online goes_item item (λ s one. s ++ switch_item_adds one) on (λ s. refl) takes scope)
-    (λ all. online_pure (switch_items all))
+switch_with_online = items_online switch_item_adds switch_items
 
 module _ (k : ℕ) (low : Statements) (on : StatementsOnline low) where
   an_expr_online : (scope : Scope) → Online (an_expr k low scope)

@@ -1,24 +1,24 @@
 -- What is read between the braces of a block or of a switch are its items.
-use Rattle.std.proofs.Common.{◌≡◌, ◌⊎◌, inl, inr, ℕ, List, [], ◌∷◌, ◌++◌, true, false, refl, arith}
+use Rattle.std.proofs.Common.{◌≡◌, ◌⊎◌, inl, inr, ℕ, List, [], ◌∷◌, ◌++◌, true, false, refl, sym, subst, arith}
 use Rattle.c_lexer.specs.declared.punct.Punct.TheVariants as p
 use Rattle.c_lexer.specs.declared.token.Token.{Token}
 use Rattle.c_lexer.specs.declared.word.Word.TheVariants as w
+use Rattle.c_syntax.specs.declared.spelled.Spelled.{Spelled}
 use Rattle.c_syntax.specs.HeightUnit.{statement_height, block_item_height, block_items_height, switch_item_height}
 use Rattle.c_syntax.specs.HeightUnit.{switch_items_height}
-use Rattle.c_reading.specs.Parser.{Parser, Found, ◌>>=◌, pure, expect, next_body, many}
-use Rattle.c_reading.specs.ReadBody.{goes_item, Statements, block_with, switch_with}
-use Rattle.c_syntax.specs.ViewUnit.{switch_items}
+use Rattle.c_reading.specs.Parser.{Parser, Found, ◌>>=◌, pure, expect, next_body}
+use Rattle.c_reading.specs.ReadBody.{goes_item, item_run, items_with, Statements, block_with, switch_with}
 use Rattle.c_reading.specs.ReadToken.{is_mark, is_word}
 use Rattle.c_syntax.specs.Scopes.{Scope}
-use Rattle.c_syntax.specs.ScopesUnit.{block_item_adds, switch_item_adds}
 use Rattle.c_syntax.specs.SpellingUnit.{spell_statement, spell_block_item, spell_block_items, spell_switch_item}
 use Rattle.c_syntax.specs.SpellingUnit.{spell_switch_items}
 use Rattle.c_syntax.specs.Tokens.{mark}
 use Rattle.c_syntax.specs.TreeUnit.{Statement, BlockItem, BlockItems, SwitchItem, SwitchItems}
-use Rattle.c_syntax.specs.ViewUnit.{block_items}
 use Rattle.c_syntax.specs.WellFormedUnit.{IsClosed, IsStatement, IsBlockItem, AreBlockItems, IsSwitchItem}
 use Rattle.c_syntax.specs.WellFormedUnit.{AreSwitchItems}
 use Rattle.c_reading.proofs.Sound.Steps.{moved, bind_found, mark_then, joined, many_found}
+use Rattle.c_reading.proofs.ItemList.{ItemList, block_list, switch_list}
+use Rattle.c_reading.proofs.Takes.{Takes}
 use Rattle.c_reading.proofs.Sound.Law.{Read, Listed, Sound, spelt}
 
 -- no `else` that the statement could take follows it
@@ -42,86 +42,64 @@ pub record SoundStatements (k : ℕ) (r : Statements) : Type 0 where
 
 -- ---- the items between the braces of a block and of a switch
 
-module _ (k : ℕ) (item : Scope → Parser BlockItem) (sound : (scope : Scope)
-    → Sound (λ one. IsBlockItem one scope) block_item_height spell_block_item k (item scope)) where
-  abbrev pub BlockRead : Scope → List Token → BlockItems → List Token → Type 0
-  BlockRead scope tokens all rest =
-      Listed (AreBlockItems all scope) (block_items_height all) k (spell_block_items all) (mark p.CloseBrace ∷ [])
-      tokens rest
+module _ {A L : Type 0} {Fits : A → Scope → Type 0} {tall : A → ℕ} {spelled : A → List Spelled} {adds : A
+    → Scope} {AllFit : L → Scope → Type 0} {tallest : L → ℕ} {all_spelled : L → List Spelled} {make : List A → L}
+    (list : ItemList Fits tall spelled adds AllFit tallest all_spelled make) (k : ℕ) (item : Scope → Parser A)
+    (sound : (scope : Scope) → Sound (λ one. Fits one scope) tall spelled k (item scope)) where
+  abbrev ItemsRead : Scope → List Token → List A → List Token → Type 0
+  ItemsRead scope tokens all rest =
+      Read (λ all. AllFit all scope) tallest all_spelled k tokens (make all) rest
 
-  abbrev pub MoreBlock : Scope → List Token → List BlockItem → List Token → Type 0
-  MoreBlock scope tokens all rest =
-      Read (λ all. AreBlockItems all scope) block_items_height spell_block_items k tokens (block_items all) rest
+  none_read : (scope : Scope) (tokens : List Token) → ItemsRead scope tokens [] tokens
+  none_read scope tokens = record {
+    spells = subst (λ all. Takes tokens all tokens) (sym list.none_spelled) refl;
+    fits = list.none_fits scope;
+    within = omega (arith, list.none_high);
+  }
 
-  one_block_item : (scope : Scope) (tokens mid rest : List Token) (one : BlockItem) (more : List BlockItem)
+  one_more : (scope : Scope) (tokens mid rest : List Token) (one : A) (more : List A)
       → goes_item scope (next_body tokens) ≡ true → item scope tokens ≡ Found one mid
-      → MoreBlock (scope ++ block_item_adds one) mid more rest → MoreBlock scope tokens (one ∷ more) rest
-  one_block_item scope tokens mid rest one more goes h then =
+      → ItemsRead (scope ++ adds one) mid more rest → ItemsRead scope tokens (one ∷ more) rest
+  one_more scope tokens mid rest one more goes h then =
       let x = sound scope tokens mid one h in
       record {
-        spells = (joined (spelt x) (spelt then)).takes;
-        fits = (x.fits, then.fits);
-        within =
-            omega (arith, x.within, then.within);
+        spells =
+            subst (λ all. Takes tokens all rest) (sym (list.more_spelled one more))
+            (joined (spelt x) (spelt then)).takes;
+        fits = list.more_fit one more scope x.fits then.fits;
+        within = omega (arith, x.within, then.within, list.more_high one more);
       }
 
   -- without the closing brace
-  pub block_items_sound : (scope : Scope) (tokens rest : List Token) (all : List BlockItem)
-      → many goes_item item (λ s one. s ++ block_item_adds one) scope tokens ≡ Found all rest
-      → MoreBlock scope tokens all rest
-  block_items_sound =
-      many_found goes_item item (λ s one. s ++ block_item_adds one) MoreBlock
-      (λ s tokens. record { spells = refl; fits = tt; within = omega arith }) one_block_item
+  pub items_sound : (scope : Scope) (tokens rest : List Token) (all : List A)
+      → item_run adds item scope tokens ≡ Found all rest → ItemsRead scope tokens all rest
+  items_sound = many_found goes_item item (λ s one. s ++ adds one) ItemsRead none_read one_more
 
-  pub block_with_sound : (scope : Scope) (tokens rest : List Token) (all : BlockItems)
-      → block_with item scope tokens ≡ Found all rest → BlockRead scope tokens all rest
-  unfolding block_with
-  block_with_sound scope tokens rest all h =
-      let x = bind_found (many goes_item item (λ s one. s ++ block_item_adds one) scope tokens)
-      (λ all. expect (is_mark p.CloseBrace) >>= λ _. pure (block_items all)) all rest h in
-      let c = mark_then p.CloseBrace (pure (block_items x.value)) x.mid rest all x.two in
-      let y = block_items_sound scope tokens x.mid x.value x.one in
-      moved (BlockRead scope tokens) {a = block_items x.value} {tokens =
-      c.mid} c.two (record { mid = x.mid; spells = spelt y; ends = c.spelt; fits = y.fits; within = y.within })
+  items_with_sound : (scope : Scope) (tokens rest : List Token) (all : L)
+      → items_with adds make item scope tokens ≡ Found all rest
+      → Listed (AllFit all scope) (tallest all) k (all_spelled all) (mark p.CloseBrace ∷ []) tokens rest
+  items_with_sound scope tokens rest all h =
+      let x = bind_found (item_run adds item scope tokens)
+      (λ all. expect (is_mark p.CloseBrace) >>= λ _. pure (make all)) all rest h in
+      let c = mark_then p.CloseBrace (pure (make x.value)) x.mid rest all x.two in
+      let y = items_sound scope tokens x.mid x.value x.one in
+      moved
+      (λ all rest. Listed (AllFit all scope) (tallest all) k (all_spelled all) (mark p.CloseBrace ∷ []) tokens rest)
+      {a = make x.value} {tokens = c.mid} c.two
+      (record { mid = x.mid; spells = spelt y; ends = c.spelt; fits = y.fits; within = y.within })
 
-module _ (k : ℕ) (item : Scope → Parser SwitchItem) (sound : (scope : Scope)
-    → Sound (λ one. IsSwitchItem one scope) switch_item_height spell_switch_item k (item scope)) where
-  abbrev pub SwitchRead : Scope → List Token → SwitchItems → List Token → Type 0
-  SwitchRead scope tokens all rest =
-      Listed (AreSwitchItems all scope) (switch_items_height all) k (spell_switch_items all)
-      (mark p.CloseBrace ∷ []) tokens rest
+pub block_with_sound : (k : ℕ) (item : Scope → Parser BlockItem)
+    → ((scope : Scope) → Sound (λ one. IsBlockItem one scope) block_item_height spell_block_item k (item scope))
+    → (scope : Scope) (tokens rest : List Token) (all : BlockItems) → block_with item scope tokens ≡ Found all rest
+    → Listed (AreBlockItems all scope) (block_items_height all) k (spell_block_items all) (mark p.CloseBrace ∷ [])
+    tokens rest
+unfolding block_with
+block_with_sound = items_with_sound block_list
 
-  abbrev pub MoreSwitch : Scope → List Token → List SwitchItem → List Token → Type 0
-  MoreSwitch scope tokens all rest =
-      Read (λ all. AreSwitchItems all scope) switch_items_height spell_switch_items k tokens (switch_items all) rest
-
-  one_switch_item : (scope : Scope) (tokens mid rest : List Token) (one : SwitchItem) (more : List SwitchItem)
-      → goes_item scope (next_body tokens) ≡ true → item scope tokens ≡ Found one mid
-      → MoreSwitch (scope ++ switch_item_adds one) mid more rest → MoreSwitch scope tokens (one ∷ more) rest
-  one_switch_item scope tokens mid rest one more goes h then =
-      let x = sound scope tokens mid one h in
-      record {
-        spells = (joined (spelt x) (spelt then)).takes;
-        fits = (x.fits, then.fits);
-        within =
-            omega (arith, x.within, then.within);
-      }
-
-  -- without the closing brace
-  pub switch_items_sound : (scope : Scope) (tokens rest : List Token) (all : List SwitchItem)
-      → many goes_item item (λ s one. s ++ switch_item_adds one) scope tokens ≡ Found all rest
-      → MoreSwitch scope tokens all rest
-  switch_items_sound =
-      many_found goes_item item (λ s one. s ++ switch_item_adds one) MoreSwitch
-      (λ s tokens. record { spells = refl; fits = tt; within = omega arith }) one_switch_item
-
-  pub switch_with_sound : (scope : Scope) (tokens rest : List Token) (all : SwitchItems)
-      → switch_with item scope tokens ≡ Found all rest → SwitchRead scope tokens all rest
-  unfolding switch_with
-  switch_with_sound scope tokens rest all h =
-      let x = bind_found (many goes_item item (λ s one. s ++ switch_item_adds one) scope tokens)
-      (λ all. expect (is_mark p.CloseBrace) >>= λ _. pure (switch_items all)) all rest h in
-      let c = mark_then p.CloseBrace (pure (switch_items x.value)) x.mid rest all x.two in
-      let y = switch_items_sound scope tokens x.mid x.value x.one in
-      moved (SwitchRead scope tokens) {a = switch_items x.value} {tokens =
-      c.mid} c.two (record { mid = x.mid; spells = spelt y; ends = c.spelt; fits = y.fits; within = y.within })
+pub switch_with_sound : (k : ℕ) (item : Scope → Parser SwitchItem)
+    → ((scope : Scope) → Sound (λ one. IsSwitchItem one scope) switch_item_height spell_switch_item k (item scope))
+    → (scope : Scope) (tokens rest : List Token) (all : SwitchItems) → switch_with item scope tokens ≡ Found all rest
+    → Listed (AreSwitchItems all scope) (switch_items_height all) k (spell_switch_items all)
+    (mark p.CloseBrace ∷ []) tokens rest
+unfolding switch_with
+switch_with_sound = items_with_sound switch_list
