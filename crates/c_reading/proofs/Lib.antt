@@ -3,7 +3,7 @@ pub mod Takes
 pub mod TokenTests
 pub mod FirstTokens
 pub mod BodyTokens
-pub mod ItemList
+pub mod NodeLists
 pub mod LevelLaws
 pub mod OneTree
 pub mod ParseLaws

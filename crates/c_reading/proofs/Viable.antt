@@ -5,6 +5,7 @@ pub mod Contexts
 pub mod Completions
 pub mod Started
 pub mod Unfit
+pub mod Nodes
 pub mod Lists
 pub mod Expr
 pub mod Unary

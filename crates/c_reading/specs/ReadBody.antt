@@ -19,7 +19,7 @@ use Rattle.c_syntax.specs.ScopesUnit.{item_adds, init_adds, optional_adds, for_i
 use Rattle.c_syntax.specs.ScopesUnit.{switch_item_adds, own_parameters, body_scope, external_adds}
 use Rattle.c_syntax.specs.Tree.{Expr, Specifiers, Declarator}
 use Rattle.c_syntax.specs.TreeUnit as unit
-use Rattle.c_syntax.specs.TreeUnit.{Initializer, Item, Items, InitDeclarator, Declaration, Assert, ForInit, Statement}
+use Rattle.c_syntax.specs.TreeUnit.{Initializer, Item, InitDeclarator, Declaration, Assert, ForInit, Statement}
 use Rattle.c_syntax.specs.TreeUnit.{BlockItem, BlockItems, SwitchItem, SwitchItems, External}
 use Rattle.c_syntax.specs.ViewUnit.{items, switch_items, block_items}
 

@@ -38,7 +38,7 @@ use Rattle.c_reading.proofs.FirstTokens.{expr_begins, begins_no_type}
 use Rattle.c_reading.proofs.Full.Law.{EndsExpr}
 use Rattle.c_reading.proofs.Full.Declarator.{parsers_full}
 use Rattle.c_syntax.proofs.HeightLaws.{expr_high}
-use Rattle.c_reading.proofs.ItemList.{ItemList, block_list, switch_list}
+use Rattle.c_reading.proofs.NodeLists.{NodeList, block_list, switch_list}
 use Rattle.c_reading.proofs.Takes.{Takes, takes_parted}
 
 -- no `else` comes that the statement could take
@@ -141,7 +141,7 @@ switch_starts = record {
 module _ {A L : Type 0} {Fits : A → Scope → Type 0} {tall : A → ℕ} {spelled : A → List Spelled} {adds : A
     → Scope} {AllFit : L → Scope → Type 0} {tallest : L → ℕ} {all_spelled : L → List Spelled} {make : List A → L}
     {begins : Scope → Option Body → Bool} {MayStand : A → List Token → Type 0}
-    (list : ItemList Fits tall spelled adds AllFit tallest all_spelled make)
+    (list : NodeList Fits tall spelled adds AllFit tallest all_spelled make)
     (item_starts : ItemStarts Fits spelled begins MayStand) where
   -- what stands in a block begins with no `else`
   items_no_else : (all : List A) (scope : Scope) (tokens rest : List Token) → AllFit (make all) scope

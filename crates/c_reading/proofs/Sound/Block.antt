@@ -1,5 +1,5 @@
 -- What is read between the braces of a block or of a switch are its items.
-use Rattle.std.proofs.Common.{◌≡◌, ◌⊎◌, inl, inr, ℕ, List, [], ◌∷◌, ◌++◌, true, false, refl, sym, subst, arith}
+use Rattle.std.proofs.Common.{◌≡◌, ◌⊎◌, inl, inr, ℕ, List, [], ◌∷◌, true, false}
 use Rattle.c_lexer.specs.declared.punct.Punct.TheVariants as p
 use Rattle.c_lexer.specs.declared.token.Token.{Token}
 use Rattle.c_lexer.specs.declared.word.Word.TheVariants as w
@@ -16,10 +16,10 @@ use Rattle.c_syntax.specs.Tokens.{mark}
 use Rattle.c_syntax.specs.TreeUnit.{Statement, BlockItem, BlockItems, SwitchItem, SwitchItems}
 use Rattle.c_syntax.specs.WellFormedUnit.{IsClosed, IsStatement, IsBlockItem, AreBlockItems, IsSwitchItem}
 use Rattle.c_syntax.specs.WellFormedUnit.{AreSwitchItems}
-use Rattle.c_reading.proofs.Sound.Steps.{moved, bind_found, mark_then, joined, many_found}
-use Rattle.c_reading.proofs.ItemList.{ItemList, block_list, switch_list}
-use Rattle.c_reading.proofs.Takes.{Takes}
-use Rattle.c_reading.proofs.Sound.Law.{Read, Listed, Sound, spelt}
+use Rattle.c_reading.proofs.Sound.Steps.{moved, bind_found, mark_then}
+use Rattle.c_reading.proofs.NodeLists.{NodeList, block_list, switch_list}
+use Rattle.c_reading.proofs.Sound.Nodes.{nodes_sound}
+use Rattle.c_reading.proofs.Sound.Law.{Listed, Sound, spelt}
 
 -- no `else` that the statement could take follows it
 abbrev pub TakesNoElse : Statement → List Token → Type 0
@@ -44,37 +44,8 @@ pub record SoundStatements (k : ℕ) (r : Statements) : Type 0 where
 
 module _ {A L : Type 0} {Fits : A → Scope → Type 0} {tall : A → ℕ} {spelled : A → List Spelled} {adds : A
     → Scope} {AllFit : L → Scope → Type 0} {tallest : L → ℕ} {all_spelled : L → List Spelled} {make : List A → L}
-    (list : ItemList Fits tall spelled adds AllFit tallest all_spelled make) (k : ℕ) (item : Scope → Parser A)
+    (list : NodeList Fits tall spelled adds AllFit tallest all_spelled make) (k : ℕ) (item : Scope → Parser A)
     (sound : (scope : Scope) → Sound (λ one. Fits one scope) tall spelled k (item scope)) where
-  abbrev ItemsRead : Scope → List Token → List A → List Token → Type 0
-  ItemsRead scope tokens all rest =
-      Read (λ all. AllFit all scope) tallest all_spelled k tokens (make all) rest
-
-  none_read : (scope : Scope) (tokens : List Token) → ItemsRead scope tokens [] tokens
-  none_read scope tokens = record {
-    spells = subst (λ all. Takes tokens all tokens) (sym list.none_spelled) refl;
-    fits = list.none_fits scope;
-    within = omega (arith, list.none_high);
-  }
-
-  one_more : (scope : Scope) (tokens mid rest : List Token) (one : A) (more : List A)
-      → goes_item scope (next_body tokens) ≡ true → item scope tokens ≡ Found one mid
-      → ItemsRead (scope ++ adds one) mid more rest → ItemsRead scope tokens (one ∷ more) rest
-  one_more scope tokens mid rest one more goes h then =
-      let x = sound scope tokens mid one h in
-      record {
-        spells =
-            subst (λ all. Takes tokens all rest) (sym (list.more_spelled one more))
-            (joined (spelt x) (spelt then)).takes;
-        fits = list.more_fit one more scope x.fits then.fits;
-        within = omega (arith, x.within, then.within, list.more_high one more);
-      }
-
-  -- without the closing brace
-  pub items_sound : (scope : Scope) (tokens rest : List Token) (all : List A)
-      → item_run adds item scope tokens ≡ Found all rest → ItemsRead scope tokens all rest
-  items_sound = many_found goes_item item (λ s one. s ++ adds one) ItemsRead none_read one_more
-
   items_with_sound : (scope : Scope) (tokens rest : List Token) (all : L)
       → items_with adds make item scope tokens ≡ Found all rest
       → Listed (AllFit all scope) (tallest all) k (all_spelled all) (mark p.CloseBrace ∷ []) tokens rest
@@ -82,7 +53,7 @@ module _ {A L : Type 0} {Fits : A → Scope → Type 0} {tall : A → ℕ} {spel
       let x = bind_found (item_run adds item scope tokens)
       (λ all. expect (is_mark p.CloseBrace) >>= λ _. pure (make all)) all rest h in
       let c = mark_then p.CloseBrace (pure (make x.value)) x.mid rest all x.two in
-      let y = items_sound scope tokens x.mid x.value x.one in
+      let y = nodes_sound list k goes_item item sound scope tokens x.mid x.value x.one in
       moved
       (λ all rest. Listed (AllFit all scope) (tallest all) k (all_spelled all) (mark p.CloseBrace ∷ []) tokens rest)
       {a = make x.value} {tokens = c.mid} c.two

@@ -30,7 +30,9 @@ use Rattle.c_syntax.specs.Tree.{Specifier, MemberDeclaration, Enumerator}
 use Rattle.c_syntax.specs.View.{members, enumerators}
 use Rattle.c_syntax.specs.WellFormed.{IsSpecifier, IsMember, AreMembers, IsEnumerator, HasEnumerator, AreEnumerators}
 use Rattle.c_reading.proofs.Sound.Steps.{moved, bind_found, deeper_found, mark_then, Spelt, joined, nothing_spelt}
-use Rattle.c_reading.proofs.Sound.Steps.{spelt_at, spelt_bare, spelt_mark, many_found, listed_found}
+use Rattle.c_reading.proofs.Sound.Steps.{spelt_at, spelt_bare, spelt_mark, listed_found}
+use Rattle.c_reading.proofs.NodeLists.{member_list}
+use Rattle.c_reading.proofs.Sound.Nodes.{nodes_sound}
 use Rattle.c_reading.proofs.Sound.Law.{Read, Listed, spelt, AllSound}
 use Rattle.c_reading.proofs.TokenTests.{token_is, name_is}
 
@@ -50,25 +52,13 @@ module _ (k : ℕ) (low : Parsers) (sound : AllSound k low) where
   -- ---- structures and unions
 
   abbrev pub IsBody : Scope → List Token → List MemberDeclaration → List Token → Type 0
-  IsBody scope =
-      Read (λ all. AreMembers (members all) scope) (λ all. members_height (members all))
-      (λ all. spell_members (members all)) k
+  IsBody scope tokens all rest =
+      Read (λ all. AreMembers all scope) members_height spell_members k tokens (members all) rest
 
   pub more_members_sound : (scope : Scope) (tokens rest : List Token) (all : List MemberDeclaration)
       → more_members k low scope tokens ≡ Found all rest → IsBody scope tokens all rest
   unfolding more_members
-  more_members_sound scope tokens rest all h =
-      many_found begins_type low.member (λ s one. s ++ member_adds one) IsBody
-      (λ s tokens. record { spells = refl; fits = tt; within = omega arith })
-      (λ s tokens mid rest one more goes h then.
-      let x = sound.member s tokens mid one h in
-      record {
-        spells = (joined (spelt x) (spelt then)).takes;
-        fits = (x.fits, then.fits);
-        within =
-            omega (arith, x.within, then.within);
-      })
-      scope tokens rest all h
+  more_members_sound = nodes_sound member_list k begins_type low.member sound.member
 
   compound_read : (s : Specified) → is_nothing s.type_seen ≡ true
       → (word : CompoundWord) (tag : Option Tag) (tokens mid behind second last rest : List Token)

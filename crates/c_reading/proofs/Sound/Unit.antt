@@ -20,9 +20,11 @@ use Rattle.c_syntax.specs.Tokens.{mark}
 use Rattle.c_syntax.specs.Tree.{Specifiers, Declarator}
 use Rattle.c_syntax.specs.TreeUnit.{BlockItems, External, Defines, Declaring, Asserting}
 use Rattle.c_syntax.specs.WellFormedUnit.{AreBlockItems, IsExternal, AreExternals}
-use Rattle.c_reading.proofs.Sound.Steps.{moved, bind_found, chosen, joined, spelt_mark, many_found}
+use Rattle.c_reading.proofs.Sound.Steps.{moved, bind_found, chosen, joined, spelt_mark}
 use Rattle.c_reading.proofs.Online.Statement.{external_at_takes}
 use Rattle.c_reading.proofs.Online.Steps.{many_over}
+use Rattle.c_reading.proofs.NodeLists.{spell_externals, external_list}
+use Rattle.c_reading.proofs.Sound.Nodes.{nodes_sound}
 use Rattle.c_reading.proofs.Sound.Law.{Read, Listed, Sound, spelt}
 use Rattle.c_reading.proofs.Sound.Block.{block_with_sound}
 use Rattle.c_reading.proofs.Sound.BlockItem.{statements_sound}
@@ -134,19 +136,7 @@ module _ (k : ℕ) where
 
   -- what stands behind the first external declaration
   abbrev MoreRead : Scope → List Token → List External → List Token → Type 0
-  MoreRead scope = Read (λ all. AreExternals all scope) externals_height (λ all. flat_map spell_external all) (suc k)
-
-  one_more : (scope : Scope) (tokens mid rest : List Token) (one : External) (more : List External)
-      → is_some (next_body tokens) ≡ true → external_at k scope tokens ≡ Found one mid
-      → MoreRead (scope ++ external_adds one) mid more rest → MoreRead scope tokens (one ∷ more) rest
-  one_more scope tokens mid rest one more goes h then =
-      let x = external_sound scope tokens mid one h in
-      record {
-        spells = (joined (spelt x) (spelt then)).takes;
-        fits = (x.fits, then.fits);
-        within =
-            omega (arith, x.within, then.within);
-      }
+  MoreRead scope = Read (λ all. AreExternals all scope) externals_height spell_externals (suc k)
 
   none_left : (rest : List Token) → is_some (next_body rest) ≡ false → rest ≡ []
   none_left [] h = refl
@@ -172,8 +162,7 @@ module _ (k : ℕ) where
       let x = bind_found (external_at k predeclared tokens) (λ first. more first >>= λ rest. pure (first ∷ rest))
       all rest h in
       let y = bind_found (more x.value x.mid) (λ rest. pure (x.value ∷ rest)) all rest x.two in
-      let then = many_found (λ s o. is_some o) (external_at k) (λ s one. s ++ external_adds one) MoreRead
-      (λ s tokens. record { spells = refl; fits = tt; within = omega arith }) one_more
+      let then = nodes_sound external_list (suc k) (λ s o. is_some o) (external_at k) external_sound
       (predeclared ++ external_adds x.value) x.mid y.mid y.value y.one in
       let over = many_over (λ s o. is_some o) (external_at k) (λ s one. s ++ external_adds one) (λ s. refl)
       (external_at_takes k) (predeclared ++ external_adds x.value) x.mid y.mid y.value y.one in

@@ -1,5 +1,5 @@
 -- Where the reading of the items between the braces of a block or of a switch stops, some begin with what was read.
-use Rattle.std.proofs.Common.{◌≡◌, inl, inr, ℕ, ◌<◌, List, [], ◌∷◌, ◌++◌, sym, ◌∙◌, ap, subst, append-nil, arith}
+use Rattle.std.proofs.Common.{◌≡◌, inl, inr, ℕ, ◌<◌, List, arith}
 use Rattle.c_lexer.specs.declared.punct.Punct.TheVariants as p
 use Rattle.c_lexer.specs.declared.token.Token.{Token}
 use Rattle.c_syntax.specs.declared.spelled.Spelled.{Spelled}
@@ -12,11 +12,12 @@ use Rattle.c_syntax.specs.Scopes.{Scope}
 use Rattle.c_syntax.specs.SpellingUnit.{spell_block_item, spell_block_items, spell_switch_item, spell_switch_items}
 use Rattle.c_syntax.specs.TreeUnit.{BlockItem, BlockItems, SwitchItem, SwitchItems}
 use Rattle.c_syntax.specs.WellFormedUnit.{IsBlockItem, AreBlockItems, IsSwitchItem, AreSwitchItems}
-use Rattle.c_reading.proofs.Viable.Contexts.{bind_stopped, close_stopped, many_stopped, Context, into}
+use Rattle.c_reading.proofs.Viable.Contexts.{bind_stopped, close_stopped, into}
+use Rattle.c_reading.proofs.Viable.Nodes.{first_node, begun_nodes_viable}
 use Rattle.c_reading.proofs.Sound.Steps.{nothing_spelt}
-use Rattle.c_reading.proofs.Sound.Law.{Read, Sound, spelt}
-use Rattle.c_reading.proofs.Sound.Block.{items_sound}
-use Rattle.c_reading.proofs.ItemList.{ItemList, block_list, switch_list}
+use Rattle.c_reading.proofs.Sound.Law.{Read, Sound}
+use Rattle.c_reading.proofs.Sound.Nodes.{nodes_sound}
+use Rattle.c_reading.proofs.NodeLists.{NodeList, block_list, switch_list}
 use Rattle.c_reading.proofs.Viable.Law.{Holds}
 
 pub record ViableStatements (k : ℕ) (r : Statements) : Type 0 where
@@ -31,48 +32,11 @@ pub record ViableStatements (k : ℕ) (r : Statements) : Type 0 where
 
 module _ {A L : Type 0} {Fits : A → Scope → Type 0} {tall : A → ℕ} {spelled : A → List Spelled} {adds : A
     → Scope} {AllFit : L → Scope → Type 0} {tallest : L → ℕ} {all_spelled : L → List Spelled} {make : List A → L}
-    (list : ItemList Fits tall spelled adds AllFit tallest all_spelled make) where
-  -- a list of one item
-  pub first_item : (scope : Scope)
-      → Context (λ one. Fits one scope) tall spelled (λ all. AllFit all scope) tallest all_spelled (λ j. j) 0 []
-  first_item scope = record {
-    make = λ one. make (one ∷ []);
-    behind = [];
-    fits = λ one fits. list.more_fit one [] scope fits (list.none_fits (scope ++ adds one));
-    within = λ one j others low. omega (arith, low, list.more_high one [], list.none_high);
-    spells = λ one. list.more_spelled one [] ∙ ap (λ z. spelled one ++ z) list.none_spelled;
-  }
-
-  -- the items behind one
-  behind_item : (scope : Scope) (one : A) → Fits one scope
-      → Context (λ all. AllFit all (scope ++ adds one)) tallest all_spelled (λ all. AllFit all scope) tallest
-      all_spelled (λ j. j) (tall one) (spelled one)
-  behind_item scope one fits = record {
-    make = λ all. make (one ∷ list.parts all);
-    behind = [];
-    fits = λ all more. list.more_fit one (list.parts all) scope fits
-        (subst (λ all. AllFit all (scope ++ adds one)) (sym (list.made all)) more);
-    within = λ all j others low.
-        omega (arith, others, low, list.more_high one (list.parts all), ap tallest (list.made all));
-    spells = λ all. list.more_spelled one (list.parts all)
-        ∙ ap (λ all. spelled one ++ all_spelled all) (list.made all)
-        ∙ ap (λ z. spelled one ++ z) (sym (append-nil (all_spelled all)));
-  }
-
+    (list : NodeList Fits tall spelled adds AllFit tallest all_spelled make) where
   module _ (k : ℕ) (item : Scope → Parser A)
       (sound : (scope : Scope) → Sound (λ one. Fits one scope) tall spelled k (item scope))
       (viable : (scope : Scope) (tokens rest : List Token) (why : Why) → item scope tokens ≡ Stopped why rest
       → Holds (Begins (λ all. AllFit all scope) tallest all_spelled) k tokens why rest) where
-    items_viable : (scope : Scope) (tokens rest : List Token) (why : Why)
-        → item_run adds item scope tokens ≡ Stopped why rest
-        → Holds (Begins (λ all. AllFit all scope) tallest all_spelled) k tokens why rest
-    items_viable =
-        many_stopped goes_item item (λ s one. s ++ adds one)
-        (λ s tokens why rest. Holds (Begins (λ all. AllFit all s) tallest all_spelled) k tokens why rest)
-        (λ s tokens rest why goes h. viable s tokens rest why h)
-        (λ s tokens mid rest one why goes h then. let x = sound s tokens mid one h in
-        into (behind_item s one x.fits) x.within (spelt x) then)
-
     -- one of the items stopped, or no brace closes them
     items_with_stopped : (P : Why → List Token → Type 0) (scope : Scope) (tokens rest : List Token) (why : Why)
         → items_with adds make item scope tokens ≡ Stopped why rest
@@ -83,9 +47,9 @@ module _ {A L : Type 0} {Fits : A → Scope → Type 0} {tall : A → ℕ} {spel
     items_with_stopped P scope tokens rest why h first closes =
         elim (bind_stopped (item_run adds item scope tokens)
         (λ all. expect (is_mark p.CloseBrace) >>= λ _. pure (make all)) why rest h) [
-          | inl x ↦ first (items_viable scope tokens rest why x)
+          | inl x ↦ first (begun_nodes_viable list k goes_item item sound viable scope tokens rest why x)
           | inr x ↦ close_stopped p.CloseBrace (make x.value) P x.mid why rest x.two
-              (closes (make x.value) x.mid (items_sound list k item sound scope tokens x.mid x.value x.one))
+              (closes (make x.value) x.mid (nodes_sound list k goes_item item sound scope tokens x.mid x.value x.one))
         ]
 
 abbrev pub BeginsBlockItems : Scope → ℕ → List Token → Type 0
@@ -120,5 +84,5 @@ pub switch_with_stopped : (k : ℕ) (item : Scope → Parser SwitchItem)
 unfolding switch_with
 switch_with_stopped k item sound viable =
     items_with_stopped switch_list k item sound
-    (λ s tokens rest why h. into (first_item switch_list s) (omega arith) (nothing_spelt tokens)
+    (λ s tokens rest why h. into (first_node switch_list s) (omega arith) (nothing_spelt tokens)
     (viable s tokens rest why h))

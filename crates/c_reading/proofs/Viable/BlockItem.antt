@@ -44,8 +44,9 @@ use Rattle.c_reading.proofs.Viable.StatementContexts.{empty, some_statement}
 use Rattle.c_reading.proofs.TokenTests.{is_mark_is, is_word_is}
 use Rattle.c_reading.proofs.Viable.Law.{Holds}
 use Rattle.c_reading.proofs.Viable.Assert.{assert_begun, assertion_stopped}
-use Rattle.c_reading.proofs.ItemList.{block_list}
-use Rattle.c_reading.proofs.Viable.Block.{ViableStatements, BeginsBlockItems, first_item}
+use Rattle.c_reading.proofs.NodeLists.{block_list}
+use Rattle.c_reading.proofs.Viable.Block.{ViableStatements, BeginsBlockItems}
+use Rattle.c_reading.proofs.Viable.Nodes.{first_node}
 use Rattle.c_reading.proofs.Viable.Declaration.{all_specifiers, declaration_viable}
 use Rattle.c_reading.proofs.Viable.Declarator.{parsers_viable}
 use Rattle.c_reading.proofs.Viable.Statement.{statement_at_viable}
@@ -271,7 +272,7 @@ lowest_item_viable scope tokens rest why h =
     elim (chosen (begins_block_item scope (next_body tokens)) (fail {A = BlockItem} TooDeep) (fail Unfit) tokens
     (Stopped why rest) h) [
       | inl x ↦ stopped (Holds (BeginsBlockItems scope) 0 tokens) x.1
-          (too_deep_in (first_item block_list scope) (nothing_spelt tokens) none
+          (too_deep_in (first_node block_list scope) (nothing_spelt tokens) none
           (block_item_begun scope (place tokens) (next_body tokens) x.0))
       | inr x ↦ stopped (Holds (BeginsBlockItems scope) 0 tokens) x.1 (refused (nothing_spelt tokens) none)
     ]
@@ -281,7 +282,7 @@ item_among : (k : ℕ) → ViableStatements k (statements k) → (scope : Scope)
     → (statements k).block_item scope tokens ≡ Stopped why rest → Holds (BeginsBlockItems scope) k tokens why rest
 item_among zero viable scope tokens rest why h = lowest_item_viable scope tokens rest why h
 item_among (suc k) viable scope tokens rest why h =
-    into (first_item block_list scope) (omega arith) (nothing_spelt tokens)
+    into (first_node block_list scope) (omega arith) (nothing_spelt tokens)
     (viable.block_item scope tokens rest why (omega arith) h)
 
 pub statements_viable : (k : ℕ) → ViableStatements k (statements k)

@@ -30,13 +30,15 @@ use Rattle.c_syntax.specs.View.{members, enumerators}
 use Rattle.c_syntax.specs.WellFormed.{SpecifyOneType, HasEnumerator, IsExpr, AreSpecifiers, IsMember, AreMembers}
 use Rattle.c_syntax.specs.WellFormed.{IsEnumerator, AreEnumerators}
 use Rattle.c_reading.proofs.Viable.Contexts.{Context, Completed, stopped, bind_stopped, given_stopped, close_stopped}
-use Rattle.c_reading.proofs.Viable.Contexts.{deeper_stopped, many_stopped, refused, too_deep, into}
+use Rattle.c_reading.proofs.Viable.Contexts.{deeper_stopped, refused, too_deep, into}
 use Rattle.c_reading.proofs.Sound.Steps.{joined, nothing_spelt, Spelt, spelt_at, spelt_bare, spelt_mark}
 use Rattle.c_reading.proofs.Sound.Law.{spelt, AllSound}
 use Rattle.c_reading.proofs.Sound.Compound.{more_members_sound, enumerator_sound, listed_enumerators_sound}
 use Rattle.c_reading.proofs.Viable.Started.{origin, least_expr, least_specifiers, least_tag, one_type}
 use Rattle.c_reading.proofs.TokenTests.{token_is, name_is}
 use Rattle.c_reading.proofs.Viable.Law.{Holds, AllViable}
+use Rattle.c_reading.proofs.NodeLists.{member_list}
+use Rattle.c_reading.proofs.Viable.Nodes.{nodes_viable}
 use Rattle.c_reading.proofs.Viable.Lists.{nothing_behind, listed_viable}
 
 abbrev least_members : Members
@@ -49,41 +51,13 @@ in_braces front inner = simp append_assoc
 module _ (k : ℕ) (low : Parsers) (sound : AllSound k low) (viable : AllViable k low) where
   -- ---- structures and unions
 
-  member_alone : (scope : Scope)
-      → Context (λ one. IsMember one scope) member_height spell_member (λ all. AreMembers all scope) members_height
-      spell_members (λ j. j) 0 []
-  member_alone scope = record {
-    make = λ one. tree.MoreMembers one tree.NoMember;
-    behind = [];
-    fits =
-        λ one is. (is, tt);
-    within = λ one j low le. omega arith;
-    spells = λ one. refl;
-  }
-
-  member_then : (scope : Scope) (one : MemberDeclaration) → IsMember one scope
-      → Context (λ all. AreMembers all (scope ++ member_adds one)) members_height spell_members
-      (λ all. AreMembers all scope) members_height spell_members (λ j. j) (member_height one) (spell_member one)
-  member_then scope one is = record {
-    make = λ all. tree.MoreMembers one all;
-    behind = [];
-    fits = λ all are. (is, are);
-    within = λ all j low le. omega arith;
-    spells = λ all. nothing_behind (spell_member one) (spell_members all);
-  }
-
   more_members_viable : 0 < k → (scope : Scope) (tokens rest : List Token) (why : Why)
       → more_members k low scope tokens ≡ Stopped why rest
       → Holds (Begins (λ all. AreMembers all scope) members_height spell_members) k tokens why rest
   unfolding more_members
-  more_members_viable some scope tokens rest why h =
-      many_stopped begins_type low.member (λ s one. s ++ member_adds one)
-      (λ s tokens why rest. Holds (Begins (λ all. AreMembers all s) members_height spell_members) k tokens why rest)
-      (λ s tokens rest why goes h. into (member_alone s) (omega arith) (nothing_spelt tokens)
-      (viable.member s tokens rest why some h))
-      (λ s tokens mid rest one why goes h then. let x = sound.member s tokens mid one h in
-      into (member_then s one x.fits) x.within (spelt x) then)
-      scope tokens rest why h
+  more_members_viable some =
+      nodes_viable member_list k begins_type low.member sound.member
+      (λ s tokens rest why h. viable.member s tokens rest why some h)
 
   module _ (scope : Scope) (word : CompoundWord) (tokens rest : List Token) (why : Why) where
     abbrev Stops : Why → List Token → Type 0

@@ -2,7 +2,6 @@
 use Rattle.std.proofs.Common.{◌≡◌, inl, inr, ℕ, zero, suc, pred, ◌≤◌, max, List, [], ◌∷◌, ◌++◌, Bool, true, false}
 use Rattle.std.proofs.Common.{is_some, refl, sym, ap, append_assoc, append-nil, arith}
 use Rattle.std.proofs.lemmas.Bool.{and_parts}
-use Rattle.std.specs.List.{flat_map}
 use Rattle.c_lexer.specs.declared.punct.Punct.TheVariants as p
 use Rattle.c_lexer.specs.declared.token.Token.{Token}
 use Rattle.c_lexer.specs.declared.word.Word.TheVariants as w
@@ -27,7 +26,7 @@ use Rattle.c_syntax.specs.TreeUnit.{External, Defines, Declaring, Asserting}
 use Rattle.c_syntax.specs.WellFormed.{DeclaresName, IsDeclarator}
 use Rattle.c_syntax.specs.WellFormedUnit.{IsDeclaration, IsAssert, AreBlockItems, IsExternal, AreExternals, IsTree}
 use Rattle.c_reading.proofs.Viable.Completions.{refused_behind}
-use Rattle.c_reading.proofs.Viable.Contexts.{bind_stopped, given_stopped, many_stopped, Context, into}
+use Rattle.c_reading.proofs.Viable.Contexts.{bind_stopped, given_stopped, Context, into}
 use Rattle.c_reading.proofs.Sound.Steps.{chosen, joined, nothing_spelt, spelt_mark}
 use Rattle.c_reading.proofs.Sound.Law.{spelt}
 use Rattle.c_reading.proofs.Sound.BlockItem.{statements_sound}
@@ -37,7 +36,9 @@ use Rattle.c_reading.proofs.Sound.Specifier.{parsers_sound}
 use Rattle.c_reading.proofs.Viable.Started.{origin, least_specifiers, one_type}
 use Rattle.c_reading.proofs.Viable.Law.{Holds}
 use Rattle.c_reading.proofs.Viable.Assert.{assertion_stopped}
+use Rattle.c_reading.proofs.NodeLists.{spell_externals, external_list}
 use Rattle.c_reading.proofs.Viable.Block.{block_with_stopped}
+use Rattle.c_reading.proofs.Viable.Nodes.{nodes_viable}
 use Rattle.c_reading.proofs.Viable.Declaration.{named_room, declarator_stopped, declared_on_viable, specifiers_stopped}
 use Rattle.c_reading.proofs.Viable.BlockItem.{block_item_viable}
 
@@ -180,46 +181,11 @@ module _ (k : ℕ) where
 
   -- ---- all tokens of a unit
 
-  abbrev spell_externals : List External → List Spelled
-  spell_externals all = flat_map spell_external all
-
-  abbrev BeginsExternals : Scope → ℕ → List Token → Type 0
-  BeginsExternals scope = Begins (λ all. AreExternals all scope) externals_height spell_externals
-
-  first_external : (scope : Scope)
-      → Context (λ one. IsExternal one scope) external_height spell_external (λ all. AreExternals all scope)
-      externals_height spell_externals (λ j. j) 0 []
-  first_external scope = record {
-    make = λ one. one ∷ [];
-    behind = [];
-    fits = λ one fits. (fits, tt);
-    within =
-        λ one j others low. omega arith;
-    spells = λ one. refl;
-  }
-
-  behind_external : (scope : Scope) (one : External) → IsExternal one scope
-      → Context (λ all. AreExternals all (scope ++ external_adds one)) externals_height spell_externals
-      (λ all. AreExternals all scope) externals_height spell_externals (λ j. j) (external_height one)
-      (spell_external one)
-  behind_external scope one fits = record {
-    make = λ all. one ∷ all;
-    behind = [];
-    fits = λ all more. (fits, more);
-    within = λ all j others low. omega arith;
-    spells = λ all. ap (λ z. spell_external one ++ z) (sym (append-nil (spell_externals all)));
-  }
-
   more_externals_viable : (scope : Scope) (tokens rest : List Token) (why : Why)
       → many (λ s o. is_some o) (external_at k) (λ s one. s ++ external_adds one) scope tokens ≡ Stopped why rest
-      → Holds (BeginsExternals scope) (suc k) tokens why rest
+      → Holds (Begins (λ all. AreExternals all scope) externals_height spell_externals) (suc k) tokens why rest
   more_externals_viable =
-      many_stopped (λ s o. is_some o) (external_at k) (λ s one. s ++ external_adds one)
-      (λ s tokens why rest. Holds (BeginsExternals s) (suc k) tokens why rest)
-      (λ s tokens rest why goes h. into (first_external s) (omega arith) (nothing_spelt tokens)
-      (external_viable s tokens rest why h))
-      (λ s tokens mid rest one why goes h then. let x = external_sound k s tokens mid one h in
-      into (behind_external s one x.fits) x.within (spelt x) then)
+      nodes_viable external_list (suc k) (λ s o. is_some o) (external_at k) (external_sound k) external_viable
 
   abbrev InTree : {A : Type 0} → (A → Type 0) → (A → ℕ) → (A → List Spelled) → ℕ → List Spelled → Type 0
   InTree Fits tall spelled = Context Fits tall spelled IsTree tree_height spell_tree (λ j. suc j)
