@@ -5,10 +5,11 @@ use Rattle.c_lexer.specs.declared.fault.LexFault.{LexFault}
 use Rattle.c_lexer.specs.declared.fault.LexFault.TheVariants.{Refused, Memory}
 use Rattle.c_lexer.specs.declared.place.Place.{Place}
 use Rattle.c_lexer.specs.declared.token.Token.{Token}
-use Rattle.c_lexer.specs.Feeding.{AreInOrder, AreOnlyTokens, IsUnread, IsFault, Progress, IsFed}
+use Rattle.c_lexer.specs.Feeding.{AreInOrder, AreOnlyTokens, IsReadFault, IsFault, Progress, IsFed}
 use Rattle.c_lexer.specs.Lexing.{start, greatest_size, tokens_of, place_behind, Splits, AreTokens}
-use Rattle.c_lexer.specs.Parts.{Part, White, Spelled}
-use Rattle.c_lexer.specs.Reading.{Reading, Anything, IsRead}
+use Rattle.c_lexer.specs.LexicalParts.{Part, White, Spelled}
+use Rattle.c_lexer.specs.ReaderState.{ReaderState}
+use Rattle.c_lexer.specs.ReadSoFar.{Anything, IsRead}
 use Rattle.c_lexer.specs.Stream.{Stream}
 use Rattle.c_lexer.proofs.SplitLaws.{same_tokens, tokens_or_refused, same_refusal, spelled_some}
 
@@ -16,7 +17,7 @@ earlier : (at from end : ℕ) (tokens : List Token) → at ≤ from → AreInOrd
 earlier at from end [] le order = omega (arith, le, order)
 earlier at from end (token ∷ tokens) le order = (omega (arith, le, order.0), order.1, order.2)
 
-spans : (place : Place) (parts : List Part) (bytes rest : List ℕ) → Splits place.fresh bytes parts rest → AreInOrder place.at (tokens_of place parts) (place.at + length bytes)
+spans : (place : Place) (parts : List Part) (bytes rest : List ℕ) → Splits place.at_line_start bytes parts rest → AreInOrder place.at (tokens_of place parts) (place.at + length bytes)
 spans place [] bytes rest split = omega arith
 spans place (White text ∷ parts) bytes rest split =
     let then = place_behind place (White text) in
@@ -44,8 +45,8 @@ only_tokens bytes stream few tokens =
       no_more = omega (arith, counted 0 (length bytes) stream.tokens order);
     }
 
-only_fault : (bytes : List ℕ) (fault : LexFault) → length bytes ≤ greatest_size → IsUnread bytes fault → IsFault bytes fault
-only_fault bytes (Memory cause) few unread = tt
+only_fault : (bytes : List ℕ) (fault : LexFault) → length bytes ≤ greatest_size → IsReadFault bytes fault → IsFault bytes fault
+only_fault bytes (Memory cause) few start_state = tt
 only_fault bytes (Refused why pos) few refused = inr (record {
   few = few;
   refused = refused;
@@ -53,12 +54,12 @@ only_fault bytes (Refused why pos) few refused = inr (record {
   no_tokens = λ stream tokens. tokens_or_refused bytes stream why pos tokens refused;
 })
 
-pub fed_tokens : (r : Result Stream LexFault) (progress : Progress) (last : Reading) → progress.reading ≡ last → IfOk r (λ stream. (bytes : List ℕ) → IsRead Anything last bytes → AreTokens bytes stream)
+pub fed_tokens : (r : Result Stream LexFault) (progress : Progress) (last : ReaderState) → progress.reader ≡ last → IfOk r (λ stream. (bytes : List ℕ) → IsRead Anything last bytes → AreTokens bytes stream)
     → IfOk r (λ stream. (bytes : List ℕ) → IsFed progress bytes → AreOnlyTokens bytes stream)
 fed_tokens (Err fault) progress last is tokens = tt
 fed_tokens (Ok stream) progress last is tokens = λ bytes fed. only_tokens bytes stream fed.few (tokens bytes (subst (λ r. IsRead Anything r bytes) is fed.read))
 
-pub fed_fault : (r : Result Stream LexFault) (progress : Progress) (last : Reading) → progress.reading ≡ last → IfErr r (λ fault. (bytes : List ℕ) → IsRead Anything last bytes → IsUnread bytes fault)
+pub fed_fault : (r : Result Stream LexFault) (progress : Progress) (last : ReaderState) → progress.reader ≡ last → IfErr r (λ fault. (bytes : List ℕ) → IsRead Anything last bytes → IsReadFault bytes fault)
     → IfErr r (λ fault. (bytes : List ℕ) → IsFed progress bytes → IsFault bytes fault)
 fed_fault (Ok stream) progress last is refused = tt
 fed_fault (Err fault) progress last is refused = λ bytes fed. only_fault bytes fault fed.few (refused bytes (subst (λ r. IsRead Anything r bytes) is fed.read))

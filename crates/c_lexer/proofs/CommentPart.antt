@@ -7,12 +7,12 @@ use Rattle.c_lexer.specs.declared.bytes.Class.TheVariants.{Line}
 use Rattle.c_lexer.specs.Classes.{is_in}
 use Rattle.c_lexer.specs.Comments.{IsBlockComment, IsLineComment, NoClose}
 use Rattle.c_lexer.specs.ReadComment.{past_close}
-use Rattle.c_lexer.specs.Parts.{Part, White, Spelled, part_text, IsPart, EndsLine}
-use Rattle.c_lexer.specs.Rows.{OpenComment, Fits, IsFirstRow}
+use Rattle.c_lexer.specs.LexicalParts.{Part, White, Spelled, part_text, IsPart, EndsLine}
+use Rattle.c_lexer.specs.Refusals.{OpenComment, Fits, IsReason}
 use Rattle.c_lexer.specs.Lexing.{Stands}
 use Rattle.c_lexer.proofs.CommentLaws.{close_full}
 use Rattle.c_lexer.proofs.Runs.{run_least, run_whole, line_ends}
-use Rattle.c_lexer.proofs.Leads.{lead, Comment, unended_lead, comment_lead, Admits, admitted_at, no_fit, no_row}
+use Rattle.c_lexer.proofs.Leads.{lead, Comment, unended_lead, comment_lead, Admits, admitted_at, no_fit, no_refusal}
 
 line_front : (text rest : List ℕ) (c : IsLineComment text) → text ++ rest ≡ codes "//" ++ (c.body ++ rest)
 line_front text rest c = ap (λ t. t ++ rest) c.parts
@@ -46,44 +46,44 @@ comment_or_byte (White text) (inr block) = inr (inl block)
 comment_or_byte (Spelled text token) one = inr (inr one)
 
 -- where a comment begins, no part but a comment is longer than a byte
-no_longer : (fresh : Bool) (text rest : List ℕ) (part : Part) (after : List ℕ) → 1 ≤ length text → lead (text ++ rest) ≡ Comment → text ++ rest ≡ part_text part ++ after → IsPart fresh part after
+no_longer : (at_line_start : Bool) (text rest : List ℕ) (part : Part) (after : List ℕ) → 1 ≤ length text → lead (text ++ rest) ≡ Comment → text ++ rest ≡ part_text part ++ after → IsPart at_line_start part after
     → (IsLineComment (part_text part) → length (part_text part) ≤ length text) → (IsBlockComment (part_text part) → length (part_text part) ≤ length text) → length (part_text part) ≤ length text
-no_longer fresh text rest part after some at h is line block =
-    elim (comment_or_byte part (admitted_at fresh (text ++ rest) Comment part after at h is))
+no_longer at_line_start text rest part after some at h is line block =
+    elim (comment_or_byte part (admitted_at at_line_start (text ++ rest) Comment part after at h is))
     [ inl c ↦ line c | inr other ↦ elim other [ inl c ↦ block c | inr one ↦ omega (arith, one, some) ] ]
 
-no_unclosed : (fresh : Bool) (bytes : List ℕ) → lead bytes ≡ Comment → (OpenComment bytes → ⊥) → Fits fresh bytes Unclosed → ⊥
-no_unclosed fresh bytes at ends (inl unended) = ends unended
-no_unclosed fresh bytes at ends (inr (inl single)) = (let quoted = unended_lead 39 bytes (inr refl) single in cc)
-no_unclosed fresh bytes at ends (inr (inr double)) = (let quoted = unended_lead 34 bytes (inl refl) double in cc)
+no_unclosed : (at_line_start : Bool) (bytes : List ℕ) → lead bytes ≡ Comment → (OpenComment bytes → ⊥) → Fits at_line_start bytes Unclosed → ⊥
+no_unclosed at_line_start bytes at ends (inl unended) = ends unended
+no_unclosed at_line_start bytes at ends (inr (inl single)) = (let quoted = unended_lead 39 bytes (inr refl) single in cc)
+no_unclosed at_line_start bytes at ends (inr (inr double)) = (let quoted = unended_lead 34 bytes (inl refl) double in cc)
 
--- where a comment that ends begins, Char is the first row
-only_char : (fresh : Bool) (bytes : List ℕ) → lead bytes ≡ Comment → (OpenComment bytes → ⊥) → IsFirstRow fresh bytes Char
-only_char fresh bytes at ends = (no_fit fresh bytes Profile at refl, no_fit fresh bytes Literal at refl, no_unclosed fresh bytes at ends, no_fit fresh bytes Directive at refl)
+-- where a comment that ends begins, Char is the reason
+only_char : (at_line_start : Bool) (bytes : List ℕ) → lead bytes ≡ Comment → (OpenComment bytes → ⊥) → IsReason at_line_start bytes Char
+only_char at_line_start bytes at ends = (no_fit at_line_start bytes Profile at refl, no_fit at_line_start bytes Literal at refl, no_unclosed at_line_start bytes at ends, no_fit at_line_start bytes Directive at refl)
 
-pub line_comment_stands : (fresh : Bool) (text rest : List ℕ) → IsLineComment text → EndsLine rest → Stands fresh (text ++ rest) (White text) rest
-line_comment_stands fresh text rest is ends =
+pub line_comment_stands : (at_line_start : Bool) (text rest : List ℕ) → IsLineComment text → EndsLine rest → Stands at_line_start (text ++ rest) (White text) rest
+line_comment_stands at_line_start text rest is ends =
     let at = comment_lead (text ++ rest) (line_front text rest is) refl in
     record {
       parts = refl;
       is = inr (inl is);
-      longest = λ part after h stands. no_longer fresh text rest part after (omega (arith, ap length is.parts)) at h stands (no_longer_line text rest (part_text part) after is ends h)
+      longest = λ part after h stands. no_longer at_line_start text rest part after (omega (arith, ap length is.parts)) at h stands (no_longer_line text rest (part_text part) after is ends h)
           (λ c. absurd (apart _ _ (sym (line_front text rest is) ∙ (h ∙ block_front (part_text part) after c))));
-      no_row = no_row fresh (text ++ rest) (only_char fresh (text ++ rest) at (λ unended. apart _ _ (sym (line_front text rest is) ∙ unended.parts)));
+      no_refusal = no_refusal at_line_start (text ++ rest) (only_char at_line_start (text ++ rest) at (λ unended. apart _ _ (sym (line_front text rest is) ∙ unended.parts)));
     }
 
-pub block_comment_stands : (fresh : Bool) (text rest : List ℕ) → IsBlockComment text → Stands fresh (text ++ rest) (White text) rest
-block_comment_stands fresh text rest is =
+pub block_comment_stands : (at_line_start : Bool) (text rest : List ℕ) → IsBlockComment text → Stands at_line_start (text ++ rest) (White text) rest
+block_comment_stands at_line_start text rest is =
     let at = comment_lead (text ++ rest) (block_front text rest is) refl in
     record {
       parts = refl;
       is = inr (inr (inl is));
-      longest = λ part after h stands. no_longer fresh text rest part after (omega (arith, ap length is.parts)) at h stands
+      longest = λ part after h stands. no_longer at_line_start text rest part after (omega (arith, ap length is.parts)) at h stands
           (λ c. absurd (apart _ _ (sym (line_front (part_text part) after c) ∙ (sym h ∙ block_front text rest is)))) (one_block text rest (part_text part) after is h);
-      no_row = no_row fresh (text ++ rest) (only_char fresh (text ++ rest) at (λ unended. unended.never is.body rest (let whole = sym unended.parts ∙ block_front text rest is in cc)));
+      no_refusal = no_refusal at_line_start (text ++ rest) (only_char at_line_start (text ++ rest) at (λ unended. unended.never is.body rest (let whole = sym unended.parts ∙ block_front text rest is in cc)));
     }
 
-pub open_comment_refused : (fresh : Bool) (body : List ℕ) → NoClose body → IsFirstRow fresh (codes "/*" ++ body) Unclosed
-open_comment_refused fresh body never =
+pub open_comment_refused : (at_line_start : Bool) (body : List ℕ) → NoClose body → IsReason at_line_start (codes "/*" ++ body) Unclosed
+open_comment_refused at_line_start body never =
     let at = comment_lead (codes "/*" ++ body) refl refl in
-    (inl (record { rest = body; parts = refl; never = never }), no_fit fresh (codes "/*" ++ body) Profile at refl, no_fit fresh (codes "/*" ++ body) Literal at refl)
+    (inl (record { rest = body; parts = refl; never = never }), no_fit at_line_start (codes "/*" ++ body) Profile at refl, no_fit at_line_start (codes "/*" ++ body) Literal at refl)

@@ -14,13 +14,13 @@ use Rattle.c_lexer.specs.Bytes.{is_blank}
 use Rattle.c_lexer.specs.Classes.{is_in}
 use Rattle.c_lexer.specs.Directives.{headers, is_header, IsInclude, IsDefine, IsMarker}
 use Rattle.c_lexer.specs.ReadComment.{past_quote}
-use Rattle.c_lexer.specs.ReadDirective.{stripped, on, unblank, all_blank, begins_blank, ends_include, is_include, ends_define, names_extension, is_define, ends_marker, is_marker}
+use Rattle.c_lexer.specs.ReadDirective.{strip, on, skip_blanks, all_blank, begins_blank, ends_include, is_include, ends_define, names_extension, is_define, ends_marker, is_marker}
 use Rattle.c_lexer.proofs.Tables.{listed_true}
 use Rattle.c_lexer.proofs.Cases.{chosen}
 use Rattle.c_lexer.proofs.Runs.{front_taken, front_dropped, run_all, run_whole}
 use Rattle.c_lexer.proofs.CommentLaws.{quote_sound, quote_full}
 
-pub strip_sound : (word text after : List ℕ) → stripped word text ≡ Some after → text ≡ word ++ after
+pub strip_sound : (word text after : List ℕ) → strip word text ≡ Some after → text ≡ word ++ after
 strip_sound word text after h =
     elim (chosen (pointwise nat_eq (take (length word) text) word) (Some (drop (length word) text)) None (Some after) h) [
       | inl a ↦
@@ -30,7 +30,7 @@ strip_sound word text after h =
       | inr a ↦ absurd (none-some _ a.1)
     ]
 
-pub strip_full : (word after : List ℕ) → stripped word (word ++ after) ≡ Some after
+pub strip_full : (word after : List ℕ) → strip word (word ++ after) ≡ Some after
 strip_full word after =
     let same : pointwise nat_eq word word ≡ true = (bytes_eq-Decides word word).1 refl in
     let front : take (length word) (word ++ after) ≡ word = take-append_seam word after in
@@ -50,9 +50,9 @@ on_true (Some text) test h = record { text = text; is = refl; holds = h }
 pub blanks_of : List ℕ → List ℕ
 blanks_of text = take (prefix_len (is_in class.Blank) text) text
 
-pub unblank_parts : (text : List ℕ) → text ≡ blanks_of text ++ unblank text
+pub skip_blanks_parts : (text : List ℕ) → text ≡ blanks_of text ++ skip_blanks text
 unfolding blanks_of
-unblank_parts text = sym (take-append-drop (prefix_len (is_in class.Blank) text) text)
+skip_blanks_parts text = sym (take-append-drop (prefix_len (is_in class.Blank) text) text)
 
 pub blanks_blank : (text : List ℕ) → list_all is_blank (blanks_of text) ≡ true
 unfolding blanks_of
@@ -68,8 +68,8 @@ blanks_some text h = omega (arith, not_zero (prefix_len (is_in class.Blank) text
 blank_run : (blanks rest : List ℕ) → list_all is_blank blanks ≡ true → prefix_len (is_in class.Blank) rest ≡ 0 → prefix_len (is_in class.Blank) (blanks ++ rest) ≡ length blanks
 blank_run blanks rest all ends = run_whole (is_in class.Blank) blanks rest all ends
 
-pub unblank_full : (blanks rest : List ℕ) → list_all is_blank blanks ≡ true → prefix_len (is_in class.Blank) rest ≡ 0 → unblank (blanks ++ rest) ≡ rest
-unblank_full blanks rest all ends = front_dropped _ blanks rest (blank_run blanks rest all ends)
+pub skip_blanks_full : (blanks rest : List ℕ) → list_all is_blank blanks ≡ true → prefix_len (is_in class.Blank) rest ≡ 0 → skip_blanks (blanks ++ rest) ≡ rest
+skip_blanks_full blanks rest all ends = front_dropped _ blanks rest (blank_run blanks rest all ends)
 
 some_true : (n m : ℕ) → n ≡ m → 0 < m → not (n == 0) ≡ true
 some_true n m is some = ap not (ne_eqb n 0 (λ (e : n ≡ 0). omega (arith, e, is, some)))
@@ -90,15 +90,15 @@ header_solid header last h =
 pub include_sound : (text : List ℕ) → is_include text ≡ true → IsInclude text
 unfolding is_include
 include_sound text h =
-    let s = on_true (stripped (codes "include") text) (λ after. ends_include (unblank after)) h in
-    let rest : List ℕ = unblank s.text in
-    let n : ℕ = prefix_len (is_in class.Solid) (unblank s.text) in
+    let s = on_true (strip (codes "include") text) (λ after. ends_include (skip_blanks after)) h in
+    let rest : List ℕ = skip_blanks s.text in
+    let n : ℕ = prefix_len (is_in class.Solid) (skip_blanks s.text) in
     let both = and_parts (is_header (take n rest)) (all_blank (drop n rest)) s.holds in
     record {
       before = blanks_of s.text;
       header = take n rest;
       last = drop n rest;
-      parts = strip_sound (codes "include") text s.text s.is ∙ ap (λ t. codes "include" ++ t) (unblank_parts s.text ∙ ap (λ t. blanks_of s.text ++ t) (sym (take-append-drop n rest)));
+      parts = strip_sound (codes "include") text s.text s.is ∙ ap (λ t. codes "include" ++ t) (skip_blanks_parts s.text ∙ ap (λ t. blanks_of s.text ++ t) (sym (take-append-drop n rest)));
       known = both.0;
       blanks = (blanks_blank s.text, both.1);
     }
@@ -107,30 +107,30 @@ pub include_full : (text : List ℕ) → IsInclude text → is_include text ≡ 
 unfolding is_include
 include_full text i =
     let solid = header_solid i.header i.last i.known in
-    let start : unblank (i.before ++ (i.header ++ i.last)) ≡ i.header ++ i.last = unblank_full i.before (i.header ++ i.last) i.blanks.0 solid.1 in
+    let start : skip_blanks (i.before ++ (i.header ++ i.last)) ≡ i.header ++ i.last = skip_blanks_full i.before (i.header ++ i.last) i.blanks.0 solid.1 in
     let run : prefix_len (is_in class.Solid) (i.header ++ i.last) ≡ length i.header = run_whole (is_in class.Solid) i.header i.last solid.0 (solid_ends i.last i.blanks.1) in
     let front : take (prefix_len (is_in class.Solid) (i.header ++ i.last)) (i.header ++ i.last) ≡ i.header = front_taken _ i.header i.last run in
     let back : drop (prefix_len (is_in class.Solid) (i.header ++ i.last)) (i.header ++ i.last) ≡ i.last = front_dropped _ i.header i.last run in
-    ap (λ t. on (stripped (codes "include") t) (λ after. ends_include (unblank after))) i.parts
-    ∙ (ap (λ o. on o (λ after. ends_include (unblank after))) (strip_full (codes "include") (i.before ++ (i.header ++ i.last)))
+    ap (λ t. on (strip (codes "include") t) (λ after. ends_include (skip_blanks after))) i.parts
+    ∙ (ap (λ o. on o (λ after. ends_include (skip_blanks after))) (strip_full (codes "include") (i.before ++ (i.header ++ i.last)))
     ∙ (ap ends_include start ∙ and_from _ _ (ap is_header front ∙ i.known) (ap all_blank back ∙ i.blanks.1)))
 
 pub define_sound : (text : List ℕ) → is_define text ≡ true → IsDefine text
 unfolding is_define
 define_sound text h =
-    let s = on_true (stripped (codes "define") text) names_extension h in
-    let one = and_parts (begins_blank s.text) (on (stripped (codes "__STDC_WANT_LIB_EXT1__") (unblank s.text)) ends_define) s.holds in
-    let t = on_true (stripped (codes "__STDC_WANT_LIB_EXT1__") (unblank s.text)) ends_define one.1 in
-    let two = and_parts (begins_blank t.text) (on (stripped (codes "1") (unblank t.text)) all_blank) t.holds in
-    let u = on_true (stripped (codes "1") (unblank t.text)) all_blank two.1 in
-    let end : unblank t.text ≡ codes "1" ++ u.text = strip_sound (codes "1") (unblank t.text) u.text u.is in
-    let middle : unblank s.text ≡ codes "__STDC_WANT_LIB_EXT1__" ++ (blanks_of t.text ++ (codes "1" ++ u.text)) =
-    strip_sound (codes "__STDC_WANT_LIB_EXT1__") (unblank s.text) t.text t.is ∙ ap (λ x. codes "__STDC_WANT_LIB_EXT1__" ++ x) (unblank_parts t.text ∙ ap (λ x. blanks_of t.text ++ x) end) in
+    let s = on_true (strip (codes "define") text) names_extension h in
+    let one = and_parts (begins_blank s.text) (on (strip (codes "__STDC_WANT_LIB_EXT1__") (skip_blanks s.text)) ends_define) s.holds in
+    let t = on_true (strip (codes "__STDC_WANT_LIB_EXT1__") (skip_blanks s.text)) ends_define one.1 in
+    let two = and_parts (begins_blank t.text) (on (strip (codes "1") (skip_blanks t.text)) all_blank) t.holds in
+    let u = on_true (strip (codes "1") (skip_blanks t.text)) all_blank two.1 in
+    let end : skip_blanks t.text ≡ codes "1" ++ u.text = strip_sound (codes "1") (skip_blanks t.text) u.text u.is in
+    let middle : skip_blanks s.text ≡ codes "__STDC_WANT_LIB_EXT1__" ++ (blanks_of t.text ++ (codes "1" ++ u.text)) =
+    strip_sound (codes "__STDC_WANT_LIB_EXT1__") (skip_blanks s.text) t.text t.is ∙ ap (λ x. codes "__STDC_WANT_LIB_EXT1__" ++ x) (skip_blanks_parts t.text ∙ ap (λ x. blanks_of t.text ++ x) end) in
     record {
       before = blanks_of s.text;
       between = blanks_of t.text;
       last = u.text;
-      parts = strip_sound (codes "define") text s.text s.is ∙ ap (λ x. codes "define" ++ x) (unblank_parts s.text ∙ ap (λ x. blanks_of s.text ++ x) middle);
+      parts = strip_sound (codes "define") text s.text s.is ∙ ap (λ x. codes "define" ++ x) (skip_blanks_parts s.text ∙ ap (λ x. blanks_of s.text ++ x) middle);
       blanks = (blanks_blank s.text, blanks_blank t.text, u.holds);
       apart = (blanks_some s.text one.0, blanks_some t.text two.0);
     }
@@ -142,29 +142,29 @@ define_full text d =
     let middle : List ℕ = codes "__STDC_WANT_LIB_EXT1__" ++ (d.between ++ (codes "1" ++ d.last)) in
     let closing : ends_define (d.between ++ (codes "1" ++ d.last)) ≡ true =
     and_from _ _ (begins_full d.between (codes "1" ++ d.last) d.blanks.1 refl d.apart.1)
-    (ap (λ t. on (stripped (codes "1") t) all_blank) (unblank_full d.between (codes "1" ++ d.last) d.blanks.1 refl) ∙ (ap (λ o. on o all_blank) (strip_full (codes "1") d.last) ∙ d.blanks.2)) in
+    (ap (λ t. on (strip (codes "1") t) all_blank) (skip_blanks_full d.between (codes "1" ++ d.last) d.blanks.1 refl) ∙ (ap (λ o. on o all_blank) (strip_full (codes "1") d.last) ∙ d.blanks.2)) in
     let naming : names_extension (d.before ++ (codes "__STDC_WANT_LIB_EXT1__" ++ (d.between ++ (codes "1" ++ d.last)))) ≡ true =
     and_from _ _ (begins_full d.before (codes "__STDC_WANT_LIB_EXT1__" ++ (d.between ++ (codes "1" ++ d.last))) d.blanks.0 refl d.apart.0)
-    (ap (λ t. on (stripped (codes "__STDC_WANT_LIB_EXT1__") t) ends_define) (unblank_full d.before (codes "__STDC_WANT_LIB_EXT1__" ++ (d.between ++ (codes "1" ++ d.last))) d.blanks.0 refl)
+    (ap (λ t. on (strip (codes "__STDC_WANT_LIB_EXT1__") t) ends_define) (skip_blanks_full d.before (codes "__STDC_WANT_LIB_EXT1__" ++ (d.between ++ (codes "1" ++ d.last))) d.blanks.0 refl)
     ∙ (ap (λ o. on o ends_define) (strip_full (codes "__STDC_WANT_LIB_EXT1__") (d.between ++ (codes "1" ++ d.last))) ∙ closing)) in
-    ap (λ t. on (stripped (codes "define") t) names_extension) d.parts
+    ap (λ t. on (strip (codes "define") t) names_extension) d.parts
     ∙ (ap (λ o. on o names_extension) (strip_full (codes "define") (d.before ++ (codes "__STDC_WANT_LIB_EXT1__" ++ (d.between ++ (codes "1" ++ d.last))))) ∙ naming)
 
 pub marker_sound : (text : List ℕ) → is_marker text ≡ true → IsMarker text
 unfolding is_marker
 marker_sound text h =
     let n : ℕ = prefix_len (is_in class.Decimal) text in
-    let one = and_parts (not (n == 0)) (on (stripped (codes "\"") (unblank (drop n text))) ends_marker) h in
-    let s = on_true (stripped (codes "\"") (unblank (drop n text))) ends_marker one.1 in
+    let one = and_parts (not (n == 0)) (on (strip (codes "\"") (skip_blanks (drop n text))) ends_marker) h in
+    let s = on_true (strip (codes "\"") (skip_blanks (drop n text))) ends_marker one.1 in
     let t = on_true (past_quote 34 false s.text) (list_all (is_in class.Spaced)) s.holds in
     let q = quote_sound 34 false s.text t.text t.is in
-    let opened : unblank (drop n text) ≡ codes "\"" ++ s.text = strip_sound (codes "\"") (unblank (drop n text)) s.text s.is in
+    let opened : skip_blanks (drop n text) ≡ codes "\"" ++ s.text = strip_sound (codes "\"") (skip_blanks (drop n text)) s.text s.is in
     record {
       number = take n text;
       between = blanks_of (drop n text);
       file = q.inner;
       last = t.text;
-      parts = sym (take-append-drop n text) ∙ ap (λ x. take n text ++ x) (unblank_parts (drop n text) ∙ ap (λ x. blanks_of (drop n text) ++ x) (opened ∙ ap (λ x. 34 ∷ x) q.parts));
+      parts = sym (take-append-drop n text) ∙ ap (λ x. take n text ++ x) (skip_blanks_parts (drop n text) ∙ ap (λ x. blanks_of (drop n text) ++ x) (opened ∙ ap (λ x. 34 ∷ x) q.parts));
       blank = blanks_blank (drop n text);
       some = omega (arith, not_zero n one.0, length-prefix_len (is_in class.Decimal) text);
       digits = run_all (is_in class.Decimal) text;
@@ -190,10 +190,10 @@ marker_full text m =
     let back : drop (prefix_len (is_in class.Decimal) (m.number ++ (m.between ++ (34 ∷ (m.file ++ (34 ∷ m.last)))))) (m.number ++ (m.between ++ (34 ∷ (m.file ++ (34 ∷ m.last))))) ≡ m.between ++ (34 ∷ (m.file ++ (34 ∷ m.last))) =
     front_dropped _ m.number (m.between ++ (34 ∷ (m.file ++ (34 ∷ m.last)))) run in
     let closing : ends_marker (m.file ++ (34 ∷ m.last)) ≡ true = ap (λ o. on o (list_all (is_in class.Spaced))) (quote_full 34 false m.file m.last (λ (e : 34 ≡ 10). omega (arith, e)) m.name) ∙ m.numbers in
-    subst (λ t. (not (prefix_len (is_in class.Decimal) t == 0) && on (stripped (codes "\"") (unblank (drop (prefix_len (is_in class.Decimal) t) t))) ends_marker) ≡ true) (sym m.parts)
+    subst (λ t. (not (prefix_len (is_in class.Decimal) t == 0) && on (strip (codes "\"") (skip_blanks (drop (prefix_len (is_in class.Decimal) t) t))) ends_marker) ≡ true) (sym m.parts)
     (and_from _ _ (some_true _ (length m.number) run m.some)
-    (ap (λ t. on (stripped (codes "\"") (unblank t)) ends_marker) back
-    ∙ (ap (λ t. on (stripped (codes "\"") t) ends_marker) (unblank_full m.between (34 ∷ (m.file ++ (34 ∷ m.last))) m.blank refl)
+    (ap (λ t. on (strip (codes "\"") (skip_blanks t)) ends_marker) back
+    ∙ (ap (λ t. on (strip (codes "\"") t) ends_marker) (skip_blanks_full m.between (34 ∷ (m.file ++ (34 ∷ m.last))) m.blank refl)
     ∙ (ap (λ o. on o ends_marker) (strip_full (codes "\"") (m.file ++ (34 ∷ m.last))) ∙ closing))))
 
 pub exactly : (b r : Bool) (P : Type 0) → r ≡ b → (b ≡ true → P) → (P → b ≡ true) → IsTrue r ↔ P

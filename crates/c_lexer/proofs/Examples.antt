@@ -1,4 +1,4 @@
--- The definitions at texts whose answer is known: the row that fits at the front, and the tokens of nothing.
+-- The definitions at texts whose answer is known: the refusal that fits at the front, and the tokens of nothing.
 use Rattle.std.proofs.Common.{◌≡◌, inl, inr, [], true, false, refl, sym, ◌∙◌, ap, arith}
 use Rattle.std.proofs.lemmas.Bool.{false≢true}
 use Rattle.std.proofs.lemmas.Option.{none-some}
@@ -10,7 +10,7 @@ use Rattle.c_lexer.specs.ReadNumber.{number_of, constant}
 use Rattle.c_lexer.specs.ReadCharacters.{character_of, item_at}
 use Rattle.c_lexer.specs.ReadComment.{past_quote}
 use Rattle.c_lexer.specs.ReadDirective.{is_include, is_define, is_marker, is_pragma}
-use Rattle.c_lexer.specs.Rows.{Fits}
+use Rattle.c_lexer.specs.Refusals.{Fits}
 use Rattle.c_lexer.specs.Lexing.{AreTokens}
 use Rattle.c_lexer.proofs.NumberLaws.{number_full}
 use Rattle.c_lexer.proofs.CharacterLaws.{character_full}

@@ -10,9 +10,9 @@ use Rattle.std.specs.List.{prefix_len, list_all, AllByRecursion}
 use Rattle.std.specs.Str.Parse.{digits_value}
 use Rattle.std.specs.Char.{is_ascii_hexdigit}
 use Rattle.c_lexer.specs.Bytes.{is_octal}
-use Rattle.c_lexer.specs.Characters.{Item, Plain, Letter, Octal, Hexadecimal, item_text, escapes, value_at, greatest, IsItem, Ends}
+use Rattle.c_lexer.specs.Characters.{Item, Plain, Letter, Octal, Hexadecimal, item_text, escapes, value_at, greatest, IsItem, IsLongest}
 use Rattle.c_lexer.specs.ReadNumber.{value_of}
-use Rattle.c_lexer.specs.ReadCharacters.{within, numbered, escape_at, is_plain, item_at}
+use Rattle.c_lexer.specs.ReadCharacters.{in_range, digits_escape, escape_at, is_plain, item_at}
 use Rattle.c_lexer.proofs.Cases.{chosen}
 use Rattle.c_lexer.proofs.Values.{small_enough}
 use Rattle.c_lexer.proofs.NumberLaws.{value_sound}
@@ -25,9 +25,9 @@ pub record Digits (wide : Bool) (radix : ℕ) (count : ℕ) (bytes : List ℕ) (
   pub fits : found.0 ≤ greatest wide
   pub after : found.1 ≡ drop count bytes
 
-within_sound : (wide : Bool) (radix count : ℕ) (bytes : List ℕ) (value : Option ℕ) (found : ℕ × List ℕ) → 0 < count → value_of radix (take count bytes) ≡ value → within wide value (drop count bytes) ≡ Some found → Digits wide radix count bytes found
-within_sound wide radix count bytes None found some at h = absurd (none-some _ h)
-within_sound wide radix count bytes (Some value) found some at h =
+in_range_sound : (wide : Bool) (radix count : ℕ) (bytes : List ℕ) (value : Option ℕ) (found : ℕ × List ℕ) → 0 < count → value_of radix (take count bytes) ≡ value → in_range wide value (drop count bytes) ≡ Some found → Digits wide radix count bytes found
+in_range_sound wide radix count bytes None found some at h = absurd (none-some _ h)
+in_range_sound wide radix count bytes (Some value) found some at h =
     elim (chosen (nat_le value (greatest wide)) (Some (value, drop count bytes)) None (Some found) h) [
       | inl a ↦
           let same : (value, drop count bytes) ≡ found = (let e = a.1 in cc) in
@@ -35,23 +35,23 @@ within_sound wide radix count bytes (Some value) found some at h =
       | inr a ↦ absurd (none-some _ a.1)
     ]
 
-pub numbered_sound : (wide : Bool) (radix count : ℕ) (bytes : List ℕ) (found : ℕ × List ℕ) → numbered wide radix count bytes ≡ Some found → Digits wide radix count bytes found
-unfolding numbered
-numbered_sound wide radix count bytes found h =
-    elim (chosen (count == 0) None (within wide (value_of radix (take count bytes)) (drop count bytes)) (Some found) h) [
+pub digits_escape_sound : (wide : Bool) (radix count : ℕ) (bytes : List ℕ) (found : ℕ × List ℕ) → digits_escape wide radix count bytes ≡ Some found → Digits wide radix count bytes found
+unfolding digits_escape
+digits_escape_sound wide radix count bytes found h =
+    elim (chosen (count == 0) None (in_range wide (value_of radix (take count bytes)) (drop count bytes)) (Some found) h) [
       | inl a ↦ absurd (none-some _ a.1)
       | inr a ↦
           let no : count ≡ 0 → ⊥ = eqb-false count 0 a.0 in
-          within_sound wide radix count bytes (value_of radix (take count bytes)) found (omega (arith, no)) refl a.1
+          in_range_sound wide radix count bytes (value_of radix (take count bytes)) found (omega (arith, no)) refl a.1
     ]
 
 greatest_small : (wide : Bool) → greatest wide < 2 ^ 64
 greatest_small true = lit< tt
 greatest_small false = lit< tt
 
-pub numbered_full : (wide : Bool) (radix count : ℕ) (digits after : List ℕ) (value : ℕ) → count ≡ length digits → 0 < length digits → value ≡ digits_value radix digits → value ≤ greatest wide → numbered wide radix count (digits ++ after) ≡ Some (value, after)
-unfolding numbered
-numbered_full wide radix count digits after value is some same fits =
+pub digits_escape_full : (wide : Bool) (radix count : ℕ) (digits after : List ℕ) (value : ℕ) → count ≡ length digits → 0 < length digits → value ≡ digits_value radix digits → value ≤ greatest wide → digits_escape wide radix count (digits ++ after) ≡ Some (value, after)
+unfolding digits_escape
+digits_escape_full wide radix count digits after value is some same fits =
     let front : take count (digits ++ after) ≡ digits = front_taken count digits after is in
     let back : drop count (digits ++ after) ≡ after = front_dropped count digits after is in
     let no : (count == 0) ≡ false = ne_eqb count 0 (λ (e : count ≡ 0). omega (arith, e, is, some)) in
@@ -64,12 +64,12 @@ pub record HasItem (wide : Bool) (quote : ℕ) (bytes : List ℕ) (found : ℕ �
   pub item : Item
   pub parts : bytes ≡ item_text item ++ found.1
   pub fits : IsItem wide quote item found.0
-  pub ends : Ends item found.1
+  pub ends : IsLongest item found.1
 
-octal_sound : (wide : Bool) (quote : ℕ) (bytes : List ℕ) (found : ℕ × List ℕ) → numbered wide 8 (min 3 (prefix_len is_octal bytes)) bytes ≡ Some found → HasItem wide quote (92 ∷ bytes) found
+octal_sound : (wide : Bool) (quote : ℕ) (bytes : List ℕ) (found : ℕ × List ℕ) → digits_escape wide 8 (min 3 (prefix_len is_octal bytes)) bytes ≡ Some found → HasItem wide quote (92 ∷ bytes) found
 octal_sound wide quote bytes found h =
     let n : ℕ = min 3 (prefix_len is_octal bytes) in
-    let d = numbered_sound wide 8 (min 3 (prefix_len is_octal bytes)) bytes found h in
+    let d = digits_escape_sound wide 8 (min 3 (prefix_len is_octal bytes)) bytes found h in
     let long : length (take n bytes) ≡ n = length-take-le n bytes (omega (arith, prefix_len-le-length is_octal bytes)) in
     record {
       item = Octal (take n bytes);
@@ -79,10 +79,10 @@ octal_sound wide quote bytes found h =
           ap (prefix_len is_octal) (d.after ∙ ap (λ k. drop k bytes) e) ∙ run_ends is_octal bytes);
     }
 
-hex_sound : (wide : Bool) (quote : ℕ) (bytes : List ℕ) (found : ℕ × List ℕ) → numbered wide 16 (prefix_len is_ascii_hexdigit bytes) bytes ≡ Some found → HasItem wide quote (92 ∷ 120 ∷ bytes) found
+hex_sound : (wide : Bool) (quote : ℕ) (bytes : List ℕ) (found : ℕ × List ℕ) → digits_escape wide 16 (prefix_len is_ascii_hexdigit bytes) bytes ≡ Some found → HasItem wide quote (92 ∷ 120 ∷ bytes) found
 hex_sound wide quote bytes found h =
     let n : ℕ = prefix_len is_ascii_hexdigit bytes in
-    let d = numbered_sound wide 16 (prefix_len is_ascii_hexdigit bytes) bytes found h in
+    let d = digits_escape_sound wide 16 (prefix_len is_ascii_hexdigit bytes) bytes found h in
     let long : length (take n bytes) ≡ n = length-take-le n bytes (prefix_len-le-length is_ascii_hexdigit bytes) in
     record {
       item = Hexadecimal (take n bytes);
@@ -101,9 +101,9 @@ escape_sound : (wide : Bool) (quote : ℕ) (bytes : List ℕ) (found : ℕ × Li
 unfolding escape_at
 escape_sound wide quote [] found h = absurd (none-some _ h)
 escape_sound wide quote (byte ∷ bytes) found h =
-    elim (chosen (is_octal byte) (numbered wide 8 (min 3 (prefix_len is_octal (byte ∷ bytes))) (byte ∷ bytes)) (cond (byte == 120) (numbered wide 16 (prefix_len is_ascii_hexdigit bytes) bytes) (option_map {U = ℕ × List ℕ} (λ x. (x, bytes)) (value_at escapes byte))) (Some found) h) [
+    elim (chosen (is_octal byte) (digits_escape wide 8 (min 3 (prefix_len is_octal (byte ∷ bytes))) (byte ∷ bytes)) (cond (byte == 120) (digits_escape wide 16 (prefix_len is_ascii_hexdigit bytes) bytes) (option_map {U = ℕ × List ℕ} (λ x. (x, bytes)) (value_at escapes byte))) (Some found) h) [
       | inl a ↦ octal_sound wide quote (byte ∷ bytes) found a.1
-      | inr a ↦ elim (chosen (byte == 120) (numbered wide 16 (prefix_len is_ascii_hexdigit bytes) bytes) (option_map {U = ℕ × List ℕ} (λ x. (x, bytes)) (value_at escapes byte)) (Some found) a.1) [
+      | inr a ↦ elim (chosen (byte == 120) (digits_escape wide 16 (prefix_len is_ascii_hexdigit bytes) bytes) (option_map {U = ℕ × List ℕ} (λ x. (x, bytes)) (value_at escapes byte)) (Some found) a.1) [
         | inl b ↦ subst (λ x. HasItem wide quote (92 ∷ x ∷ bytes) found) (sym (eqb-true byte 120 b.0)) (hex_sound wide quote bytes found b.1)
         | inr b ↦ letter_sound wide quote byte bytes (value_at escapes byte) found refl b.1
       ]
@@ -159,12 +159,12 @@ unfolding escape_at
 octal_full wide [] after value some few all same fits ends = absurd (omega (arith, some))
 octal_full wide (d ∷ ds) after value some few all same fits ends =
     let first : is_octal d ≡ true = (and_parts (is_octal d) (list_all is_octal ds) all).0 in
-    cond-true (is_octal d) _ _ first ∙ numbered_full wide 8 (min 3 (prefix_len is_octal (d ∷ (ds ++ after)))) (d ∷ ds) after value (octal_count (d ∷ ds) after few all ends) some same fits
+    cond-true (is_octal d) _ _ first ∙ digits_escape_full wide 8 (min 3 (prefix_len is_octal (d ∷ (ds ++ after)))) (d ∷ ds) after value (octal_count (d ∷ ds) after few all ends) some same fits
 
 hex_full : (wide : Bool) (digits after : List ℕ) (value : ℕ) → 0 < length digits → list_all is_ascii_hexdigit digits ≡ true → value ≡ digits_value 16 digits → value ≤ greatest wide → prefix_len is_ascii_hexdigit after ≡ 0 → escape_at wide (120 ∷ (digits ++ after)) ≡ Some (value, after)
 unfolding escape_at
 hex_full wide digits after value some all same fits ends =
-    numbered_full wide 16 (prefix_len is_ascii_hexdigit (digits ++ after)) digits after value (run_whole is_ascii_hexdigit digits after all ends) some same fits
+    digits_escape_full wide 16 (prefix_len is_ascii_hexdigit (digits ++ after)) digits after value (run_whole is_ascii_hexdigit digits after all ends) some same fits
 
 letter_full : (wide : Bool) (byte value : ℕ) (after : List ℕ) → value_at escapes byte ≡ Some value → escape_at wide (byte ∷ after) ≡ Some (value, after)
 unfolding escape_at
@@ -177,7 +177,7 @@ unfolding item_at
 plain_full wide quote byte after not_quote not_backslash not_feed small =
     rw (ne_eqb byte 92 not_backslash, ne_eqb byte quote not_quote, ne_eqb byte 10 not_feed, wide_false wide byte small) refl
 
-pub item_full : (wide : Bool) (quote : ℕ) (item : Item) (value : ℕ) (after : List ℕ) → IsItem wide quote item value → Ends item after → item_at wide quote (item_text item ++ after) ≡ Some (value, after)
+pub item_full : (wide : Bool) (quote : ℕ) (item : Item) (value : ℕ) (after : List ℕ) → IsItem wide quote item value → IsLongest item after → item_at wide quote (item_text item ++ after) ≡ Some (value, after)
 unfolding item_at
 item_full wide quote (Plain byte) value after fits ends = plain_full wide quote byte after fits.0 fits.1 fits.2 fits.3 ∙ ap (λ v. Some (v, after)) (sym fits.4)
 item_full wide quote (Letter byte) value after fits ends = letter_full wide byte value after fits

@@ -1,4 +1,4 @@
--- What may stand at a place, and which rows may fit there, by the two bytes at the front.
+-- What may stand at a place, and which refusals may fit there, by the two bytes at the front.
 use Rattle.std.proofs.Common.{◌≡◌, ◌⊎◌, inl, inr, ℕ, List, [], ◌∷◌, ◌++◌, Bool, true, false, ◌==◌, ◌||◌, ◌&&◌, cond, length, take, zero, suc, refl, sym, ◌∙◌, ap, subst, arith, append_assoc}
 use Rattle.std.proofs.lemmas.Bool.{and_parts, and_from, and_left, and_right, or_from, or_parts, eqb-true, false≢true, false_from_ne_true, not-true, or_cases}
 use Rattle.std.specs.Prelude.{slice_index, not, ◌≢◌}
@@ -15,11 +15,11 @@ use Rattle.c_lexer.specs.Bytes.{is_letter, is_word_byte, is_white, is_quote}
 use Rattle.c_lexer.specs.Words.{word_text, words, word_of, outside_words, is_outside}
 use Rattle.c_lexer.specs.Marks.{mark_text, marks}
 use Rattle.c_lexer.specs.Numbers.{IsNumber}
-use Rattle.c_lexer.specs.Characters.{opening, item_text}
+use Rattle.c_lexer.specs.Characters.{encoding_prefix, item_text}
 use Rattle.c_lexer.specs.Comments.{IsBlockComment, IsLineComment}
 use Rattle.c_lexer.specs.Directives.{IsDirective}
-use Rattle.c_lexer.specs.Parts.{Part, White, Spelled, part_text, IsPart, IsWhite}
-use Rattle.c_lexer.specs.Rows.{begins_number, NoCharacter, NoLiteral, NeverEnds, Fits, IsFirstRow}
+use Rattle.c_lexer.specs.LexicalParts.{Part, White, Spelled, part_text, IsPart, IsWhite}
+use Rattle.c_lexer.specs.Refusals.{begins_number, NoCharacter, NoLiteral, NeverEnds, Fits, IsReason}
 use Rattle.c_lexer.proofs.MarkLaws.{mark_full}
 use Rattle.c_lexer.proofs.Cases.{other_byte}
 use Rattle.c_lexer.proofs.Tables.{lookup_true, listed_true}
@@ -81,7 +81,7 @@ pub each_quote : (P : ℕ → Type 0) (quote : ℕ) → IsQuote quote → P 34 �
 each_quote P quote (inl is) double single = subst P (sym is) double
 each_quote P quote (inr is) double single = subst P (sym is) single
 
-pub quoted_lead : (wide : Bool) (quote : ℕ) (bytes rest : List ℕ) → IsQuote quote → bytes ≡ opening wide ++ (quote ∷ rest) → lead bytes ≡ Quoted
+pub quoted_lead : (wide : Bool) (quote : ℕ) (bytes rest : List ℕ) → IsQuote quote → bytes ≡ encoding_prefix wide ++ (quote ∷ rest) → lead bytes ≡ Quoted
 unfolding lead
 quoted_lead false quote bytes rest is parts = ap lead parts ∙ each_quote (λ q. lead (q ∷ rest) ≡ Quoted) quote is refl refl
 quoted_lead true quote bytes rest is parts = ap lead parts ∙ each_quote (λ q. lead (76 ∷ q ∷ rest) ≡ Quoted) quote is refl refl
@@ -166,9 +166,9 @@ number_admitted : (text after : List ℕ) (number : Number) → IsNumber text nu
 number_admitted text after number is =
     admits_there (Spelled text (body.Number number)) (digit_front text after (number_first is.base is.before is.after text number is.parts is.prefix is.constant)) (inr (number, refl))
 
-quoted_front : (wide : Bool) (quote : ℕ) (text after rest : List ℕ) → IsQuote quote → text ≡ opening wide ++ (quote ∷ rest) → lead (text ++ after) ≡ Quoted
+quoted_front : (wide : Bool) (quote : ℕ) (text after rest : List ℕ) → IsQuote quote → text ≡ encoding_prefix wide ++ (quote ∷ rest) → lead (text ++ after) ≡ Quoted
 quoted_front wide quote text after rest is parts =
-    quoted_lead wide quote (text ++ after) (rest ++ after) is (ap (λ t. t ++ after) parts ∙ append_assoc (opening wide) (quote ∷ rest) after)
+    quoted_lead wide quote (text ++ after) (rest ++ after) is (ap (λ t. t ++ after) parts ∙ append_assoc (encoding_prefix wide) (quote ∷ rest) after)
 
 -- where marks stand: none of one byte is a letter, white or a #
 abbrev is_other : Lead → Bool
@@ -218,27 +218,27 @@ pub hash_lead : {rest : List ℕ} (bytes : List ℕ) → bytes ≡ 35 ∷ rest �
 unfolding lead
 hash_lead bytes parts = ap lead parts
 
-white_admitted : (fresh : Bool) (text after : List ℕ) → IsWhite fresh text after → Admits (lead (text ++ after)) (White text)
-white_admitted fresh text after (inl white) =
+white_admitted : (at_line_start : Bool) (text after : List ℕ) → IsWhite at_line_start text after → Admits (lead (text ++ after)) (White text)
+white_admitted at_line_start text after (inl white) =
     admits_there (White text) (ap (λ t. lead (t ++ after)) white.1 ∙ white_lead white.0 after white.2) (ap length white.1)
-white_admitted fresh text after (inr (inl line)) = admits_there (White text) (comment_lead (text ++ after) (ap (λ t. t ++ after) line.parts) refl) (inl line)
-white_admitted fresh text after (inr (inr (inl block))) =
+white_admitted at_line_start text after (inr (inl line)) = admits_there (White text) (comment_lead (text ++ after) (ap (λ t. t ++ after) line.parts) refl) (inl line)
+white_admitted at_line_start text after (inr (inr (inl block))) =
     admits_there (White text) (comment_lead (text ++ after) (ap (λ t. t ++ after) block.parts) refl) (inr block)
-white_admitted fresh text after (inr (inr (inr directive))) = admits_there (White text) (hash_lead (text ++ after) (ap (λ t. t ++ after) directive.1.parts)) directive.1
+white_admitted at_line_start text after (inr (inr (inr directive))) = admits_there (White text) (hash_lead (text ++ after) (ap (λ t. t ++ after) directive.1.parts)) directive.1
 
-pub admitted : (fresh : Bool) (part : Part) (after : List ℕ) → IsPart fresh part after → Admits (lead (part_text part ++ after)) part
-admitted fresh (White text) after is = white_admitted fresh text after is
-admitted fresh (Spelled text (body.Word word)) after is = word_admitted text after word is
-admitted fresh (Spelled text (body.Name name)) after is = run_admitted text after (body.Name name) is.1.first is.1.each
-admitted fresh (Spelled text (body.Number number)) after is = number_admitted text after number is
-admitted fresh (Spelled text (body.Character value wide)) after is =
+pub admitted : (at_line_start : Bool) (part : Part) (after : List ℕ) → IsPart at_line_start part after → Admits (lead (part_text part ++ after)) part
+admitted at_line_start (White text) after is = white_admitted at_line_start text after is
+admitted at_line_start (Spelled text (body.Word word)) after is = word_admitted text after word is
+admitted at_line_start (Spelled text (body.Name name)) after is = run_admitted text after (body.Name name) is.1.first is.1.each
+admitted at_line_start (Spelled text (body.Number number)) after is = number_admitted text after number is
+admitted at_line_start (Spelled text (body.Character value wide)) after is =
     admits_there (Spelled text (body.Character value wide)) (quoted_front wide 39 text after (item_text is.item ++ (39 ∷ [])) (inr refl) is.parts) (inr tt)
-admitted fresh (Spelled text (body.Literal units wide)) after is =
+admitted at_line_start (Spelled text (body.Literal units wide)) after is =
     admits_there (Spelled text (body.Literal units wide)) (quoted_front wide 34 text after (flat_map item_text is.items ++ (34 ∷ [])) (inl refl) is.parts) (inr tt)
-admitted fresh (Spelled text (body.Mark mark)) after is = mark_front text after mark (ap may_be_mark is ∙ mark_may mark)
+admitted at_line_start (Spelled text (body.Mark mark)) after is = mark_front text after mark (ap may_be_mark is ∙ mark_may mark)
 
-pub admitted_at : (fresh : Bool) (bytes : List ℕ) (l : Lead) (other : Part) (after : List ℕ) → lead bytes ≡ l → bytes ≡ part_text other ++ after → IsPart fresh other after → Admits l other
-admitted_at fresh bytes l other after at parts is = subst (λ k. Admits k other) (sym (ap lead parts) ∙ at) (admitted fresh other after is)
+pub admitted_at : (at_line_start : Bool) (bytes : List ℕ) (l : Lead) (other : Part) (after : List ℕ) → lead bytes ≡ l → bytes ≡ part_text other ++ after → IsPart at_line_start other after → Admits l other
+admitted_at at_line_start bytes l other after at parts is = subst (λ k. Admits k other) (sym (ap lead parts) ∙ at) (admitted at_line_start other after is)
 
 -- a letter that is no L
 abbrev is_other_letter : ℕ → Bool
@@ -264,7 +264,7 @@ literal_lead bytes fault = quoted_lead fault.wide 34 bytes (fault.inner ++ (34 �
 pub unended_lead : (quote : ℕ) (bytes : List ℕ) → IsQuote quote → NeverEnds quote bytes → lead bytes ≡ Quoted
 unended_lead quote bytes is fault = quoted_lead fault.wide quote bytes fault.rest is fault.parts
 
--- where each row can fit
+-- where each refusal can fit
 abbrev pub may_fit : Refusal → Lead → Bool
 may_fit Profile Letter = true
 may_fit Literal Quoted = true
@@ -275,34 +275,34 @@ may_fit Directive Hash = true
 may_fit Char at = true
 may_fit why at = false
 
-fits_there : (fresh : Bool) (bytes : List ℕ) (why : Refusal) → Fits fresh bytes why → may_fit why (lead bytes) ≡ true
-fits_there fresh bytes Profile fits = ap (may_fit Profile) (taken_lead (prefix_len is_word_byte bytes) bytes (outside_first (take (prefix_len is_word_byte bytes) bytes) fits))
-fits_there fresh bytes Literal (inl number) = ap (may_fit Literal) (number_lead bytes number.0)
-fits_there fresh bytes Literal (inr (inl character)) = ap (may_fit Literal) (character_lead bytes character)
-fits_there fresh bytes Literal (inr (inr literal)) = ap (may_fit Literal) (literal_lead bytes literal)
-fits_there fresh bytes Unclosed (inl comment) = ap (may_fit Unclosed) (comment_lead bytes comment.parts refl)
-fits_there fresh bytes Unclosed (inr (inl single)) = ap (may_fit Unclosed) (unended_lead 39 bytes (inr refl) single)
-fits_there fresh bytes Unclosed (inr (inr double)) = ap (may_fit Unclosed) (unended_lead 34 bytes (inl refl) double)
-fits_there fresh bytes Directive fits = ap (may_fit Directive) (hash_lead bytes fits.1.parts)
-fits_there fresh bytes Char fits = refl
-fits_there fresh bytes why fits = absurd fits
+fits_there : (at_line_start : Bool) (bytes : List ℕ) (why : Refusal) → Fits at_line_start bytes why → may_fit why (lead bytes) ≡ true
+fits_there at_line_start bytes Profile fits = ap (may_fit Profile) (taken_lead (prefix_len is_word_byte bytes) bytes (outside_first (take (prefix_len is_word_byte bytes) bytes) fits))
+fits_there at_line_start bytes Literal (inl number) = ap (may_fit Literal) (number_lead bytes number.0)
+fits_there at_line_start bytes Literal (inr (inl character)) = ap (may_fit Literal) (character_lead bytes character)
+fits_there at_line_start bytes Literal (inr (inr literal)) = ap (may_fit Literal) (literal_lead bytes literal)
+fits_there at_line_start bytes Unclosed (inl comment) = ap (may_fit Unclosed) (comment_lead bytes comment.parts refl)
+fits_there at_line_start bytes Unclosed (inr (inl single)) = ap (may_fit Unclosed) (unended_lead 39 bytes (inr refl) single)
+fits_there at_line_start bytes Unclosed (inr (inr double)) = ap (may_fit Unclosed) (unended_lead 34 bytes (inl refl) double)
+fits_there at_line_start bytes Directive fits = ap (may_fit Directive) (hash_lead bytes fits.1.parts)
+fits_there at_line_start bytes Char fits = refl
+fits_there at_line_start bytes why fits = absurd fits
 
--- a row fits nowhere else
-pub no_fit : {at : Lead} (fresh : Bool) (bytes : List ℕ) (why : Refusal) → lead bytes ≡ at → may_fit why at ≡ false → Fits fresh bytes why → ⊥
-no_fit fresh bytes why at never fits = false≢true (sym never ∙ (ap (may_fit why) (sym at) ∙ fits_there fresh bytes why fits))
+-- a refusal fits nowhere else
+pub no_fit : {at : Lead} (at_line_start : Bool) (bytes : List ℕ) (why : Refusal) → lead bytes ≡ at → may_fit why at ≡ false → Fits at_line_start bytes why → ⊥
+no_fit at_line_start bytes why at never fits = false≢true (sym never ∙ (ap (may_fit why) (sym at) ∙ fits_there at_line_start bytes why fits))
 
--- where no word, number, comment or quotation begins, and no directive, Char is the first row
-pub char_first : {at : Lead} (fresh : Bool) (bytes : List ℕ) → lead bytes ≡ at → (may_fit Profile at || may_fit Literal at || may_fit Unclosed at) ≡ false → (Fits fresh bytes Directive → ⊥) → IsFirstRow fresh bytes Char
-char_first {at = l} fresh bytes at none directive =
+-- where no word, number, comment or quotation begins, and no directive, Char is the reason
+pub char_first : {at : Lead} (at_line_start : Bool) (bytes : List ℕ) → lead bytes ≡ at → (may_fit Profile at || may_fit Literal at || may_fit Unclosed at) ≡ false → (Fits at_line_start bytes Directive → ⊥) → IsReason at_line_start bytes Char
+char_first {at = l} at_line_start bytes at none directive =
     let most = or_parts (may_fit Profile l || may_fit Literal l) (may_fit Unclosed l) none in
     let two = or_parts (may_fit Profile l) (may_fit Literal l) most.0 in
-    (no_fit fresh bytes Profile at two.0, no_fit fresh bytes Literal at two.1, no_fit fresh bytes Unclosed at most.1, directive)
+    (no_fit at_line_start bytes Profile at two.0, no_fit at_line_start bytes Literal at two.1, no_fit at_line_start bytes Unclosed at most.1, directive)
 
--- no other row fits where Char is the first that does
-pub no_row : (fresh : Bool) (bytes : List ℕ) → IsFirstRow fresh bytes Char → (why : Refusal) → why ≢ Char → Fits fresh bytes why → ⊥
-no_row fresh bytes none Profile other fits = none.0 fits
-no_row fresh bytes none Literal other fits = none.1 fits
-no_row fresh bytes none Unclosed other fits = none.2 fits
-no_row fresh bytes none Directive other fits = none.3 fits
-no_row fresh bytes none Char other fits = other refl
-no_row fresh bytes none why other fits = fits
+-- no other refusal fits where Char is the reason
+pub no_refusal : (at_line_start : Bool) (bytes : List ℕ) → IsReason at_line_start bytes Char → (why : Refusal) → why ≢ Char → Fits at_line_start bytes why → ⊥
+no_refusal at_line_start bytes none Profile other fits = none.0 fits
+no_refusal at_line_start bytes none Literal other fits = none.1 fits
+no_refusal at_line_start bytes none Unclosed other fits = none.2 fits
+no_refusal at_line_start bytes none Directive other fits = none.3 fits
+no_refusal at_line_start bytes none Char other fits = other refl
+no_refusal at_line_start bytes none why other fits = fits

@@ -10,26 +10,26 @@ use Rattle.c_lexer.specs.Bytes.{is_white, is_blank}
 use Rattle.c_lexer.specs.Classes.{is_in}
 use Rattle.c_lexer.specs.Comments.{IsInner}
 use Rattle.c_lexer.specs.Directives.{headers, is_header, IsInclude, IsDefine, IsMarker, IsShape, IsDirective}
-use Rattle.c_lexer.specs.Parts.{Part, White, Spelled, part_text, EndsLine}
-use Rattle.c_lexer.specs.Rows.{IsFirstRow}
+use Rattle.c_lexer.specs.LexicalParts.{Part, White, Spelled, part_text, EndsLine}
+use Rattle.c_lexer.specs.Refusals.{IsReason}
 use Rattle.c_lexer.specs.Lexing.{Stands}
 use Rattle.c_lexer.proofs.Cases.{other_byte}
 use Rattle.c_lexer.proofs.Runs.{all_weaker, all_joined, front_taken, run_whole, run_least, line_ends}
 use Rattle.c_lexer.proofs.Tables.{listed_true}
-use Rattle.c_lexer.proofs.Leads.{Hash, Space, white_lead, hash_lead, Admits, admitted_at, no_fit, char_first, no_row}
+use Rattle.c_lexer.proofs.Leads.{Hash, Space, white_lead, hash_lead, Admits, admitted_at, no_fit, char_first, no_refusal}
 
 length_at_space : (part : Part) → Admits Space part → length (part_text part) ≡ 1
 length_at_space (White text) one = one
 length_at_space (Spelled text token) none = absurd none
 
-pub white_stands : (fresh : Bool) (byte : ℕ) (rest : List ℕ) → is_white byte ≡ true → Stands fresh (byte ∷ rest) (White (byte ∷ [])) rest
-white_stands fresh byte rest is =
+pub white_stands : (at_line_start : Bool) (byte : ℕ) (rest : List ℕ) → is_white byte ≡ true → Stands at_line_start (byte ∷ rest) (White (byte ∷ [])) rest
+white_stands at_line_start byte rest is =
     let at = white_lead byte rest is in
     record {
       parts = refl;
       is = inl (byte, refl, is);
-      longest = λ other after parts part. omega (arith, length_at_space other (admitted_at fresh (byte ∷ rest) Space other after at parts part));
-      no_row = no_row fresh (byte ∷ rest) (char_first fresh (byte ∷ rest) at refl (no_fit fresh (byte ∷ rest) Directive at refl));
+      longest = λ other after parts part. omega (arith, length_at_space other (admitted_at at_line_start (byte ∷ rest) Space other after at parts part));
+      no_refusal = no_refusal at_line_start (byte ∷ rest) (char_first at_line_start (byte ∷ rest) at refl (no_fit at_line_start (byte ∷ rest) Directive at refl));
     }
 
 -- bytes of a class that has no line feed
@@ -91,10 +91,10 @@ directive_stands body rest line ends is =
       longest = λ other after parts part.
           let all = line_at_hash other (admitted_at true ((35 ∷ body) ++ rest) Hash other after at parts part) in
           omega (arith, run_least (is_in Line) (part_text other) after all, ap (prefix_len (is_in Line)) parts, line_length body rest line ends);
-      no_row = no_row true ((35 ∷ body) ++ rest) (char_first true ((35 ∷ body) ++ rest) at refl (λ fits. fits.1.none (subst IsDirective (sym (line_front body rest line ends)) is)));
+      no_refusal = no_refusal true ((35 ∷ body) ++ rest) (char_first true ((35 ∷ body) ++ rest) at refl (λ fits. fits.1.none (subst IsDirective (sym (line_front body rest line ends)) is)));
     }
 
-pub directive_refused : (body rest : List ℕ) → list_all (is_in Line) body ≡ true → EndsLine rest → (IsDirective (35 ∷ body) → ⊥) → IsFirstRow true ((35 ∷ body) ++ rest) Directive
+pub directive_refused : (body rest : List ℕ) → list_all (is_in Line) body ≡ true → EndsLine rest → (IsDirective (35 ∷ body) → ⊥) → IsReason true ((35 ∷ body) ++ rest) Directive
 directive_refused body rest line ends none =
     let at = hash_lead ((35 ∷ body) ++ rest) refl in (
       (refl, record { rest = body ++ rest; parts = refl; none = λ d. none (subst IsDirective (line_front body rest line ends) d) }),

@@ -13,13 +13,13 @@ use Rattle.c_lexer.specs.declared.token.Body.TheVariants as body
 use Rattle.c_lexer.specs.Bytes.{is_letter, is_word_byte}
 use Rattle.c_lexer.specs.Classes.{is_in}
 use Rattle.c_lexer.specs.Numbers.{digits_of, suffixes, IsPrefix, IsConstant, IsNumber}
-use Rattle.c_lexer.specs.Parts.{Part, White, Spelled, part_text, IsPart, IsToken}
-use Rattle.c_lexer.specs.Rows.{is_exponent, number_len, begins_number, Fits, IsFirstRow}
+use Rattle.c_lexer.specs.LexicalParts.{Part, White, Spelled, part_text, IsPart, IsToken}
+use Rattle.c_lexer.specs.Refusals.{is_exponent, number_len, begins_number, Fits, IsReason}
 use Rattle.c_lexer.specs.Lexing.{Stands}
 use Rattle.c_lexer.proofs.Runs.{all_weaker, all_joined, front_taken}
 use Rattle.c_lexer.proofs.Tables.{lookup_true}
 use Rattle.c_lexer.proofs.TokenLaws.{octal_digit, digit_token}
-use Rattle.c_lexer.proofs.Leads.{Digit, Admits, character_lead, literal_lead, number_lead, admitted_at, no_fit, no_row}
+use Rattle.c_lexer.proofs.Leads.{Digit, Admits, character_lead, literal_lead, number_lead, admitted_at, no_fit, no_refusal}
 
 -- the text is all that goes on as a number
 pub record IsNumberRun (text rest : List ℕ) : Type 0 where
@@ -72,10 +72,10 @@ begins_some bytes begins =
       | inr both ↦ (let parts = and_parts (slice_index bytes 0 == 46) (is_ascii_digit (slice_index bytes 1)) both in let more = point_more bytes (eqb-true _ _ parts.0) parts.1 in omega (arith, more))
     ]
 
-longest_number : (bytes : List ℕ) (other : Part) (after : List ℕ) (fresh : Bool) → begins_number bytes ≡ true → Admits Digit other → bytes ≡ part_text other ++ after → IsPart fresh other after → length (part_text other) ≤ number_len false bytes
-longest_number bytes (White text) after fresh begins admits parts is = absurd admits
-longest_number bytes (Spelled text token) after fresh begins (inl one) parts is = (let some = begins_some bytes begins in omega (arith, one, some))
-longest_number bytes (Spelled text token) after fresh begins (inr number) parts is =
+longest_number : (bytes : List ℕ) (other : Part) (after : List ℕ) (at_line_start : Bool) → begins_number bytes ≡ true → Admits Digit other → bytes ≡ part_text other ++ after → IsPart at_line_start other after → length (part_text other) ≤ number_len false bytes
+longest_number bytes (White text) after at_line_start begins admits parts is = absurd admits
+longest_number bytes (Spelled text token) after at_line_start begins (inl one) parts is = (let some = begins_some bytes begins in omega (arith, one, some))
+longest_number bytes (Spelled text token) after at_line_start begins (inr number) parts is =
     let all = number_word text number.0 (subst (IsToken text) number.1 is) in
     subst (λ b. length text ≤ number_len false b) (sym parts) (number_least false text after all)
 
@@ -99,30 +99,30 @@ run_number (a ∷ text) rest token run is =
           [ inl one ↦ absurd (omega (arith, one, more, ends)) | inr number ↦ spelled_number (a ∷ text) token number is ]
     ]
 
-no_literal : (fresh : Bool) (text rest : List ℕ) (number : Number) → IsNumberRun text rest → IsNumber text number → Fits fresh (text ++ rest) Literal → ⊥
-no_literal fresh text rest number run is (inl none) = none.1 number (subst (λ t. IsNumber t number) (sym (run_taken text rest run)) is)
-no_literal fresh text rest number run is (inr (inl fault)) = (let digit = number_lead (text ++ rest) run.begins in let quoted = character_lead (text ++ rest) fault in cc)
-no_literal fresh text rest number run is (inr (inr fault)) = (let digit = number_lead (text ++ rest) run.begins in let quoted = literal_lead (text ++ rest) fault in cc)
+no_literal : (at_line_start : Bool) (text rest : List ℕ) (number : Number) → IsNumberRun text rest → IsNumber text number → Fits at_line_start (text ++ rest) Literal → ⊥
+no_literal at_line_start text rest number run is (inl none) = none.1 number (subst (λ t. IsNumber t number) (sym (run_taken text rest run)) is)
+no_literal at_line_start text rest number run is (inr (inl fault)) = (let digit = number_lead (text ++ rest) run.begins in let quoted = character_lead (text ++ rest) fault in cc)
+no_literal at_line_start text rest number run is (inr (inr fault)) = (let digit = number_lead (text ++ rest) run.begins in let quoted = literal_lead (text ++ rest) fault in cc)
 
-pub number_stands : (fresh : Bool) (text rest : List ℕ) (token : Body) → IsNumberRun text rest → IsToken text token → Stands fresh (text ++ rest) (Spelled text token) rest
-number_stands fresh text rest token run is =
+pub number_stands : (at_line_start : Bool) (text rest : List ℕ) (token : Body) → IsNumberRun text rest → IsToken text token → Stands at_line_start (text ++ rest) (Spelled text token) rest
+number_stands at_line_start text rest token run is =
     let at = number_lead (text ++ rest) run.begins in
     let number = run_number text rest token run is in record {
       parts = refl;
       is = is;
       longest = λ other after parts part.
-          let longest = longest_number (text ++ rest) other after fresh run.begins (admitted_at fresh (text ++ rest) Digit other after at parts part) parts part in
+          let longest = longest_number (text ++ rest) other after at_line_start run.begins (admitted_at at_line_start (text ++ rest) Digit other after at parts part) parts part in
           let ends = run.ends in omega (arith, longest, ends);
-      no_row = no_row fresh (text ++ rest) (
-        no_fit fresh (text ++ rest) Profile at refl,
-        no_literal fresh text rest number.0 run number.1,
-        no_fit fresh (text ++ rest) Unclosed at refl,
-        no_fit fresh (text ++ rest) Directive at refl,
+      no_refusal = no_refusal at_line_start (text ++ rest) (
+        no_fit at_line_start (text ++ rest) Profile at refl,
+        no_literal at_line_start text rest number.0 run number.1,
+        no_fit at_line_start (text ++ rest) Unclosed at refl,
+        no_fit at_line_start (text ++ rest) Directive at refl,
       );
     }
 
-pub number_refused : (fresh : Bool) (text rest : List ℕ) → IsNumberRun text rest → ((token : Body) → IsToken text token → ⊥) → IsFirstRow fresh (text ++ rest) Literal
-number_refused fresh text rest run none = (
+pub number_refused : (at_line_start : Bool) (text rest : List ℕ) → IsNumberRun text rest → ((token : Body) → IsToken text token → ⊥) → IsReason at_line_start (text ++ rest) Literal
+number_refused at_line_start text rest run none = (
   inl (run.begins, λ number is. none (body.Number number) (subst (λ t. IsNumber t number) (run_taken text rest run) is)),
-  no_fit fresh (text ++ rest) Profile (number_lead (text ++ rest) run.begins) refl,
+  no_fit at_line_start (text ++ rest) Profile (number_lead (text ++ rest) run.begins) refl,
 )

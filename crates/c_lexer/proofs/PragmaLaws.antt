@@ -9,7 +9,7 @@ use Rattle.c_lexer.specs.Classes.{is_in}
 use Rattle.c_lexer.specs.Comments.{NoClose, IsBlockComment, IsQuoted, IsInner}
 use Rattle.c_lexer.specs.Directives.{IsSingle, ArePieces, GoesOn, IsPragma}
 use Rattle.c_lexer.specs.ReadComment.{past_close, past_quote}
-use Rattle.c_lexer.specs.ReadDirective.{stripped, on, behind_close, behind_quote, past_piece, by_piece, goes_on_from, goes_on, ends_pragma, is_pragma}
+use Rattle.c_lexer.specs.ReadDirective.{strip, on, behind_close, behind_quote, past_piece, by_piece, goes_on_from, goes_on, ends_pragma, is_pragma}
 use Rattle.c_lexer.proofs.CommentLaws.{close_sound, close_none, quote_sound, quote_full}
 use Rattle.c_lexer.proofs.DirectiveLaws.{strip_sound, strip_full, on_true}
 
@@ -194,7 +194,7 @@ goes_full bytes g = subst (λ t. goes_on_from (length t) t ≡ true) (sym g.part
 pub pragma_sound : (text : List ℕ) → is_pragma text ≡ true → IsPragma text
 unfolding is_pragma
 pragma_sound text h =
-    let s = on_true (stripped (codes "pragma") text) ends_pragma h in
+    let s = on_true (strip (codes "pragma") text) ends_pragma h in
     let two = and_parts (prefix_len (is_in class.Word) s.text == 0 && list_all (is_in class.Line) s.text) (not (goes_on s.text)) s.holds in
     let one = and_parts (prefix_len (is_in class.Word) s.text == 0) (list_all (is_in class.Line) s.text) two.0 in
     record {
@@ -212,7 +212,7 @@ not_on bytes false is none = refl
 pub pragma_full : (text : List ℕ) → IsPragma text → is_pragma text ≡ true
 unfolding is_pragma
 pragma_full text p =
-    ap (λ t. on (stripped (codes "pragma") t) ends_pragma) p.parts
+    ap (λ t. on (strip (codes "pragma") t) ends_pragma) p.parts
     ∙ (ap (λ o. on o ends_pragma) (strip_full (codes "pragma") p.rest)
     ∙ and_from _ _ (and_from _ _ (eq-eqb (prefix_len (is_in class.Word) p.rest) 0 p.word) p.line_only) (not_on p.rest (goes_on p.rest) refl p.within))
 

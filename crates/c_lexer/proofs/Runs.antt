@@ -7,7 +7,7 @@ use Rattle.std.proofs.lemmas.List.Folds.{list_all-append}
 use Rattle.std.specs.List.{prefix_len, list_all}
 use Rattle.c_lexer.specs.declared.bytes.Class.TheVariants.{Line}
 use Rattle.c_lexer.specs.Classes.{is_in}
-use Rattle.c_lexer.specs.Parts.{EndsLine}
+use Rattle.c_lexer.specs.LexicalParts.{EndsLine}
 
 pub all_weaker : (p q : ℕ → Bool) (xs : List ℕ) → ((x : ℕ) → p x ≡ true → q x ≡ true) → list_all p xs ≡ true → list_all q xs ≡ true
 all_weaker p q [] weaker all = refl

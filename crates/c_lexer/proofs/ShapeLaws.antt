@@ -8,8 +8,8 @@ use Rattle.c_lexer.specs.declared.bytes.Class.TheVariants as class
 use Rattle.c_lexer.specs.Bytes.{is_blank}
 use Rattle.c_lexer.specs.Classes.{is_in}
 use Rattle.c_lexer.specs.Directives.{IsShape, IsDirective}
-use Rattle.c_lexer.specs.ReadDirective.{unblank}
-use Rattle.c_lexer.proofs.DirectiveLaws.{blanks_of, unblank_parts, blanks_blank, unblank_full}
+use Rattle.c_lexer.specs.ReadDirective.{skip_blanks}
+use Rattle.c_lexer.proofs.DirectiveLaws.{blanks_of, skip_blanks_parts, blanks_blank, skip_blanks_full}
 
 digit_apart : (b : ℕ) (t : Bool) → is_ascii_digit b ≡ true → is_blank b ≡ t → t ≡ false
 digit_apart b false digit is = refl
@@ -28,14 +28,14 @@ shape_begins text (inr (inl d)) = ap (prefix_len (is_in class.Blank)) d.parts
 shape_begins text (inr (inr (inl m))) = ap (prefix_len (is_in class.Blank)) m.parts ∙ number_begins m.number _ m.some m.digits
 shape_begins text (inr (inr (inr p))) = ap (prefix_len (is_in class.Blank)) p.parts
 
-to_line : (after : List ℕ) → IsShape (unblank after) → IsDirective (35 ∷ after)
-to_line after shape = record { before = blanks_of after; text = unblank after; parts = ap (λ t. 35 ∷ t) (unblank_parts after); blank = blanks_blank after; shape = shape }
+to_line : (after : List ℕ) → IsShape (skip_blanks after) → IsDirective (35 ∷ after)
+to_line after shape = record { before = blanks_of after; text = skip_blanks after; parts = ap (λ t. 35 ∷ t) (skip_blanks_parts after); blank = blanks_blank after; shape = shape }
 
-pub from_line : (byte : ℕ) (after : List ℕ) → IsDirective (byte ∷ after) → IsShape (unblank after)
+pub from_line : (byte : ℕ) (after : List ℕ) → IsDirective (byte ∷ after) → IsShape (skip_blanks after)
 from_line byte after d =
     let rest : after ≡ d.before ++ d.text = (let e = d.parts in cc) in
-    subst IsShape (sym (ap unblank rest ∙ unblank_full d.before d.text d.blank (shape_begins d.text d.shape))) d.shape
+    subst IsShape (sym (ap skip_blanks rest ∙ skip_blanks_full d.before d.text d.blank (shape_begins d.text d.shape))) d.shape
 
-pub directive_line : (line : List ℕ) (b : Bool) → 1 ≤ length line → get_or line 0 0 ≡ 35 → (IsTrue b ↔ IsShape (unblank (drop 1 line))) → IsTrue b ↔ IsDirective line
+pub directive_line : (line : List ℕ) (b : Bool) → 1 ≤ length line → get_or line 0 0 ≡ 35 → (IsTrue b ↔ IsShape (skip_blanks (drop 1 line))) → IsTrue b ↔ IsDirective line
 directive_line [] b some first h = absurd (omega (arith, some))
 directive_line (byte ∷ after) b some first h = (λ t. subst (λ x. IsDirective (x ∷ after)) (sym first) (to_line after (h.0 t)), λ d. h.1 (from_line byte after d))

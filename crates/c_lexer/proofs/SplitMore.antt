@@ -5,10 +5,10 @@ use Rattle.c_lexer.specs.declared.place.Place.{Place}
 use Rattle.c_lexer.specs.declared.token.Token.{Token}
 use Rattle.c_lexer.specs.declared.token.Body.{Body}
 use Rattle.c_lexer.specs.Lexing.{behind, behind_byte, place_behind, tokens_of, place_after, Stands, Splits}
-use Rattle.c_lexer.specs.Parts.{Part, White, Spelled, part_text}
+use Rattle.c_lexer.specs.LexicalParts.{Part, White, Spelled, part_text}
 
-pub splits_more : (place : Place) (parts : List Part) (part : Part) (bytes rest after : List ℕ) → Splits place.fresh bytes parts rest → Stands (place_after place parts).fresh rest part after → Splits place.fresh bytes (parts ++ (part ∷ [])) after
-splits_more place [] part bytes rest after split stands = (after, subst (λ b. Stands place.fresh b part after) (sym split) stands, refl)
+pub splits_more : (place : Place) (parts : List Part) (part : Part) (bytes rest after : List ℕ) → Splits place.at_line_start bytes parts rest → Stands (place_after place parts).at_line_start rest part after → Splits place.at_line_start bytes (parts ++ (part ∷ [])) after
+splits_more place [] part bytes rest after split stands = (after, subst (λ b. Stands place.at_line_start b part after) (sym split) stands, refl)
 splits_more place (x ∷ parts) part bytes rest after split stands = (split.0, split.1, splits_more (place_behind place x) parts part split.0 rest after split.2 stands)
 
 pub place_more : (place : Place) (parts : List Part) (part : Part) → place_after place (parts ++ (part ∷ [])) ≡ place_behind (place_after place parts) part
@@ -34,7 +34,7 @@ behind_append pos [] rest = refl
 behind_append pos (byte ∷ first) rest = behind_append (behind_byte pos byte) first rest
 
 -- the place behind the parts is the place behind their bytes
-pub pos_after : (place : Place) (parts : List Part) (bytes rest : List ℕ) → Splits place.fresh bytes parts rest → behind place.pos bytes ≡ behind (place_after place parts).pos rest
+pub pos_after : (place : Place) (parts : List Part) (bytes rest : List ℕ) → Splits place.at_line_start bytes parts rest → behind place.pos bytes ≡ behind (place_after place parts).pos rest
 pos_after place [] bytes rest split = ap (behind place.pos) split
 pos_after place (part ∷ parts) bytes rest split =
     ap (behind place.pos) split.1.parts ∙ (behind_append place.pos (part_text part) split.0 ∙ pos_after (place_behind place part) parts split.0 rest split.2)

@@ -10,20 +10,21 @@ use Rattle.c_lexer.specs.declared.ending.Ending.TheVariants as ending
 use Rattle.c_lexer.specs.declared.mode.Mode.{Mode}
 use Rattle.c_lexer.specs.declared.mode.Mode.TheVariants as mode
 use Rattle.c_lexer.specs.ReadPart.{next, only, is_dots, is_other}
-use Rattle.c_lexer.specs.Reading.{Reading, Ahead, Anything, Byte, End, Follows, IsRead, Closes, went_on, after_ending, next_part, BeginsOr, IsParted, is_pair, ahead_of}
+use Rattle.c_lexer.specs.ReaderState.{ReaderState, Closes, after_byte, after_ending, next_part, BeginsOr, IsParted, is_pair}
+use Rattle.c_lexer.specs.ReadSoFar.{Ahead, Anything, Byte, End, Follows, IsRead, ahead_of}
 use Rattle.c_lexer.proofs.Cases.{not_is_false}
 use Rattle.c_lexer.proofs.EndLaws.{Stops}
 use Rattle.c_lexer.proofs.ReaderLaws.{closes, went, begun, stays, gives_back}
 
 -- what is open after a part has ended: nothing, unless the bytes are refused
-ended_mode : (end : Ending) (before after : Reading) → after ≡ after_ending before end → before.refused ≡ None → ((after.refused ≡ None) × (after.mode ≡ None)) ⊎ ((found : Refusal × Pos) × (after.refused ≡ Some found))
-ended_mode ending.White before after is none = inl (ap (λ (r : Reading). r.refused) is ∙ none, ap (λ (r : Reading). r.mode) is)
-ended_mode (ending.Token token) before after is none = inl (ap (λ (r : Reading). r.refused) is ∙ none, ap (λ (r : Reading). r.mode) is)
-ended_mode (ending.Refused why) before after is none = inr ((why, before.place.pos), ap (λ (r : Reading). r.refused) is)
+ended_mode : (end : Ending) (before after : ReaderState) → after ≡ after_ending before end → before.refused ≡ None → ((after.refused ≡ None) × (after.mode ≡ None)) ⊎ ((found : Refusal × Pos) × (after.refused ≡ Some found))
+ended_mode ending.White before after is none = inl (ap (λ (r : ReaderState). r.refused) is ∙ none, ap (λ (r : ReaderState). r.mode) is)
+ended_mode (ending.Token token) before after is none = inl (ap (λ (r : ReaderState). r.refused) is ∙ none, ap (λ (r : ReaderState). r.mode) is)
+ended_mode (ending.Refused why) before after is none = inr ((why, before.place.pos), ap (λ (r : ReaderState). r.refused) is)
 
-pub closed_mode : (open_part : Option Mode) (before after : Reading) → before.mode ≡ open_part → Closes open_part before after → before.refused ≡ None
+pub closed_mode : (open_part : Option Mode) (before after : ReaderState) → before.mode ≡ open_part → Closes open_part before after → before.refused ≡ None
     → ((after.refused ≡ None) × (after.mode ≡ None)) ⊎ ((found : Refusal × Pos) × (after.refused ≡ Some found))
-closed_mode None before after at c none = inl (ap (λ (r : Reading). r.refused) c ∙ none, ap (λ (r : Reading). r.mode) c ∙ at)
+closed_mode None before after at c none = inl (ap (λ (r : ReaderState). r.refused) c ∙ none, ap (λ (r : ReaderState). r.mode) c ∙ at)
 closed_mode (Some here) before after at c none = ended_mode c.0 before after c.2 none
 
 -- the open part, if there is one, ends where this comes
@@ -31,13 +32,13 @@ StopsAt : Option Mode → List ℕ → Ahead → Type 0
 StopsAt None text ahead = Unit {0}
 StopsAt (Some here) text ahead = (here ≡ mode.Dots → ⊥) × ((rest : List ℕ) → Follows ahead rest → Stops here text rest)
 
-closed : (ahead : Ahead) (open_part : Option Mode) (before after : Reading) (bytes : List ℕ) → before.mode ≡ open_part → before.refused ≡ None → StopsAt open_part before.text ahead → IsRead ahead before bytes → Closes open_part before after
+closed : (ahead : Ahead) (open_part : Option Mode) (before after : ReaderState) (bytes : List ℕ) → before.mode ≡ open_part → before.refused ≡ None → StopsAt open_part before.text ahead → IsRead ahead before bytes → Closes open_part before after
     → IsRead ahead after bytes
 unfolding StopsAt
 closed ahead None before after bytes at none stops read c = subst (λ r. IsRead ahead r bytes) (sym c) read
 closed ahead (Some here) before after bytes at none stops read c = closes ahead here before after bytes none at stops.0 stops.1 read c
 
-begins_or : (found : Option (Refusal × Pos)) (mid after : Reading) (byte : ℕ) (bytes : List ℕ) → mid.refused ≡ found
+begins_or : (found : Option (Refusal × Pos)) (mid after : ReaderState) (byte : ℕ) (bytes : List ℕ) → mid.refused ≡ found
     → ((mid.refused ≡ None) × (mid.mode ≡ None)) ⊎ ((f : Refusal × Pos) × (mid.refused ≡ Some f)) → BeginsOr found mid byte after → IsRead (Byte byte) mid bytes → IsRead Anything after (bytes ++ (byte ∷ []))
 begins_or None mid after byte bytes at (inl e) b read = subst (λ r. IsRead Anything r (bytes ++ (byte ∷ []))) (sym b) (begun mid byte bytes e.0 e.1 read)
 begins_or None mid after byte bytes at (inr e) b read = absurd (none-some _ (sym at ∙ e.1))
@@ -56,15 +57,15 @@ stops_byte (Some here) text byte point leads = (
 )
 
 -- the byte ends what is open, and begins what comes
-pub turned : (before mid after : Reading) (byte : ℕ) (bytes : List ℕ) → before.refused ≡ None → (before.mode ≡ Some mode.Dots → byte ≡ 46) → next_part before.mode before.text byte ≡ None → Closes before.mode before mid → BeginsOr mid.refused mid byte after
+pub turned : (before mid after : ReaderState) (byte : ℕ) (bytes : List ℕ) → before.refused ≡ None → (before.mode ≡ Some mode.Dots → byte ≡ 46) → next_part before.mode before.text byte ≡ None → Closes before.mode before mid → BeginsOr mid.refused mid byte after
     → IsRead (Byte byte) before bytes → IsRead Anything after (bytes ++ (byte ∷ []))
 turned before mid after byte bytes none point leads c b read =
     begins_or mid.refused mid after byte bytes refl (closed_mode before.mode before mid refl c none) b
     (closed (Byte byte) before.mode before mid bytes refl none (stops_byte before.mode before.text byte point leads) read c)
 
 -- the byte goes on with what is open
-pub followed : (open_part : Option Mode) (before : Reading) (then : Mode) (byte : ℕ) (bytes : List ℕ) → before.mode ≡ open_part → before.refused ≡ None → next_part open_part before.text byte ≡ Some then → IsRead (Byte byte) before bytes
-    → IsRead Anything (went_on before then byte) (bytes ++ (byte ∷ []))
+pub followed : (open_part : Option Mode) (before : ReaderState) (then : Mode) (byte : ℕ) (bytes : List ℕ) → before.mode ≡ open_part → before.refused ≡ None → next_part open_part before.text byte ≡ Some then → IsRead (Byte byte) before bytes
+    → IsRead Anything (after_byte before then byte) (bytes ++ (byte ∷ []))
 followed None before then byte bytes at none leads read = absurd (none-some _ leads)
 followed (Some here) before then byte bytes at none leads read = went before here then byte bytes none at leads read
 
@@ -79,13 +80,13 @@ third_point None other = absurd (false≢true (sym other))
 third_point (Some byte) other = ap Some (eqb-true byte 46 (not_is_false (byte == 46) other))
 
 -- two points are parted, or what is open is no pair
-parts_pair : (coming : Option ℕ) (t : Bool) (before after : Reading) (bytes : List ℕ) → before.mode ≡ Some mode.Dots → is_other coming ≡ t → before.refused ≡ None → IsParted t before after → IsRead (ahead_of coming) before bytes
+parts_pair : (coming : Option ℕ) (t : Bool) (before after : ReaderState) (bytes : List ℕ) → before.mode ≡ Some mode.Dots → is_other coming ≡ t → before.refused ≡ None → IsParted t before after → IsRead (ahead_of coming) before bytes
     → IsRead (ahead_of coming) after bytes × (after.refused ≡ None) × (after.mode ≡ Some mode.Dots → coming ≡ Some 46)
 parts_pair coming true before after bytes at other none parted read =
     let back = gives_back (ahead_of coming) before after bytes none at (λ rest follows. stops_points coming rest other follows) read parted in
     (back.0, back.1, λ points. let e : Some mode.Dot ≡ Some mode.Dots = sym back.2 ∙ points in cc)
 parts_pair coming false before after bytes at other none parted read =
-    (subst (λ r. IsRead (ahead_of coming) r bytes) (sym parted) read, ap (λ (r : Reading). r.refused) parted ∙ none, λ points. third_point coming other)
+    (subst (λ r. IsRead (ahead_of coming) r bytes) (sym parted) read, ap (λ (r : ReaderState). r.refused) parted ∙ none, λ points. third_point coming other)
 
 dots_only : (here : Mode) → is_dots here ≡ true → here ≡ mode.Dots
 dots_only mode.Dots is = refl
@@ -103,24 +104,24 @@ dots_only mode.Space is = absurd (false≢true is)
 dots_only mode.Directive is = absurd (false≢true is)
 dots_only mode.Alien is = absurd (false≢true is)
 
-parts_open : (coming : Option ℕ) (here : Mode) (t : Bool) (before after : Reading) (bytes : List ℕ) → before.mode ≡ Some here → is_dots here ≡ t → before.refused ≡ None → IsParted (t && is_other coming) before after
+parts_open : (coming : Option ℕ) (here : Mode) (t : Bool) (before after : ReaderState) (bytes : List ℕ) → before.mode ≡ Some here → is_dots here ≡ t → before.refused ≡ None → IsParted (t && is_other coming) before after
     → IsRead (ahead_of coming) before bytes → IsRead (ahead_of coming) after bytes × (after.refused ≡ None) × (after.mode ≡ Some mode.Dots → coming ≡ Some 46)
 parts_open coming here true before after bytes at dots none parted read = parts_pair coming (is_other coming) before after bytes (at ∙ ap Some (dots_only here dots)) refl none parted read
 parts_open coming here false before after bytes at dots none parted read = (
   subst (λ r. IsRead (ahead_of coming) r bytes) (sym parted) read,
-  ap (λ (r : Reading). r.refused) parted ∙ none,
+  ap (λ (r : ReaderState). r.refused) parted ∙ none,
   λ points.
-      let e : Some here ≡ Some mode.Dots = sym at ∙ (sym (ap (λ (r : Reading). r.mode) parted) ∙ points) in
+      let e : Some here ≡ Some mode.Dots = sym at ∙ (sym (ap (λ (r : ReaderState). r.mode) parted) ∙ points) in
       let is : here ≡ mode.Dots = cc in
       absurd (false≢true (sym dots ∙ ap is_dots is)),
 )
 
-pub parts : (coming : Option ℕ) (open_part : Option Mode) (before after : Reading) (bytes : List ℕ) → before.mode ≡ open_part → before.refused ≡ None → IsParted (is_pair open_part coming) before after
+pub parts : (coming : Option ℕ) (open_part : Option Mode) (before after : ReaderState) (bytes : List ℕ) → before.mode ≡ open_part → before.refused ≡ None → IsParted (is_pair open_part coming) before after
     → IsRead (ahead_of coming) before bytes → IsRead (ahead_of coming) after bytes × (after.refused ≡ None) × (after.mode ≡ Some mode.Dots → coming ≡ Some 46)
 parts coming None before after bytes at none parted read = (
   subst (λ r. IsRead (ahead_of coming) r bytes) (sym parted) read,
-  ap (λ (r : Reading). r.refused) parted ∙ none,
-  λ points. let e : None ≡ Some mode.Dots = sym at ∙ (sym (ap (λ (r : Reading). r.mode) parted) ∙ points) in absurd (none-some _ e),
+  ap (λ (r : ReaderState). r.refused) parted ∙ none,
+  λ points. let e : None ≡ Some mode.Dots = sym at ∙ (sym (ap (λ (r : ReaderState). r.mode) parted) ∙ points) in absurd (none-some _ e),
 )
 parts coming (Some here) before after bytes at none parted read = parts_open coming here (is_dots here) before after bytes at refl none parted read
 
@@ -130,10 +131,10 @@ stops_end None text point = tt
 stops_end (Some here) text point = (λ is. point (ap Some is), λ rest follows. subst (Stops here text) (sym follows) tt)
 
 -- what is open ends with the bytes
-pub last_closed : (before after : Reading) (bytes : List ℕ) → before.refused ≡ None → (before.mode ≡ Some mode.Dots → ⊥) → Closes before.mode before after → IsRead End before bytes → IsRead End after bytes
+pub last_closed : (before after : ReaderState) (bytes : List ℕ) → before.refused ≡ None → (before.mode ≡ Some mode.Dots → ⊥) → Closes before.mode before after → IsRead End before bytes → IsRead End after bytes
 last_closed before after bytes none point c read = closed End before.mode before after bytes refl none (stops_end before.mode before.text point) read c
 
 -- nothing is open where nothing is refused
-pub nothing_open : (before after : Reading) → before.refused ≡ None → Closes before.mode before after → after.refused ≡ None → after.mode ≡ None
+pub nothing_open : (before after : ReaderState) → before.refused ≡ None → Closes before.mode before after → after.refused ≡ None → after.mode ≡ None
 nothing_open before after none c whole =
     elim (closed_mode before.mode before after refl c none) [ inl e ↦ e.1 | inr e ↦ absurd (none-some _ (sym whole ∙ e.1)) ]

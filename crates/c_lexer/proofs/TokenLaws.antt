@@ -19,7 +19,7 @@ use Rattle.c_lexer.specs.Numbers.{IsPrefix, IsConstant}
 use Rattle.c_lexer.specs.Characters.{IsCharacter, IsLiteral}
 use Rattle.c_lexer.specs.ReadNumber.{number_of}
 use Rattle.c_lexer.specs.ReadCharacters.{character_of, literal_of}
-use Rattle.c_lexer.specs.Parts.{IsName, IsToken}
+use Rattle.c_lexer.specs.LexicalParts.{IsName, IsToken}
 use Rattle.c_lexer.proofs.Cases.{other_byte}
 use Rattle.c_lexer.proofs.Tables.{lookup_true, listed_true}
 use Rattle.c_lexer.proofs.MarkLaws.{mark_full}

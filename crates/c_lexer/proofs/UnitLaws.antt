@@ -3,7 +3,7 @@ use Rattle.std.proofs.Common.{◌≡◌, ℕ, zero, suc, ◌<◌, ◌≤◌, Lis
 use Rattle.std.proofs.lemmas.Option.{none-some}
 use Rattle.std.specs.Prelude.{ℤ, Option, Some, None, map}
 use Rattle.std.specs.List.{flat_map}
-use Rattle.c_lexer.specs.Characters.{Item, Plain, Letter, Octal, Hexadecimal, item_text, unit_of, AreItems, Ends}
+use Rattle.c_lexer.specs.Characters.{Item, Plain, Letter, Octal, Hexadecimal, item_text, unit_of, AreItems, IsLongest}
 use Rattle.c_lexer.specs.ReadCharacters.{item_at, units_from, units_more, units_at}
 use Rattle.c_lexer.proofs.ItemLaws.{item_sound, item_full}
 
@@ -69,7 +69,7 @@ more_sound go wide bytes (Some found) at all =
       items = i.item ∷ u.items;
       values = found.0 ∷ u.values;
       parts = i.parts ∙ (ap (λ t. item_text i.item ++ t) u.parts ∙ sym (append_assoc (item_text i.item) (flat_map item_text u.items) (go found.1).1));
-      fit = (i.fits, subst (Ends i.item) u.parts i.ends, u.fit);
+      fit = (i.fits, subst (IsLongest i.item) u.parts i.ends, u.fit);
       same = ap (λ t. unit_of wide found.0 ∷ t) u.same;
     }
 

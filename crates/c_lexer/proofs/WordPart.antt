@@ -8,12 +8,12 @@ use Rattle.c_lexer.specs.declared.token.Body.{Body}
 use Rattle.c_lexer.specs.declared.token.Body.TheVariants as body
 use Rattle.c_lexer.specs.Bytes.{is_letter, is_word_byte, is_quote}
 use Rattle.c_lexer.specs.Words.{is_outside}
-use Rattle.c_lexer.specs.Parts.{Part, White, Spelled, part_text, IsToken}
-use Rattle.c_lexer.specs.Rows.{IsFirstRow}
+use Rattle.c_lexer.specs.LexicalParts.{Part, White, Spelled, part_text, IsToken}
+use Rattle.c_lexer.specs.Refusals.{IsReason}
 use Rattle.c_lexer.specs.Lexing.{Stands}
 use Rattle.c_lexer.proofs.Runs.{front_taken, run_whole, run_least}
 use Rattle.c_lexer.proofs.TokenLaws.{outside_token}
-use Rattle.c_lexer.proofs.Leads.{Letter, lead, Admits, letter_lead, longer_lead, admitted_at, no_fit, no_row}
+use Rattle.c_lexer.proofs.Leads.{Letter, lead, Admits, letter_lead, longer_lead, admitted_at, no_fit, no_refusal}
 
 -- a whole run that begins with a letter, and is no L before a quote
 pub record IsRun (text rest : List ℕ) : Type 0 where
@@ -43,19 +43,19 @@ longest_run : (bytes : List ℕ) (other : Part) (after : List ℕ) → Admits Le
 longest_run bytes (White text) after admits parts = absurd admits
 longest_run bytes (Spelled text token) after admits parts = subst (λ b. length text ≤ prefix_len is_word_byte b) (sym parts) (run_least is_word_byte text after admits)
 
-pub word_stands : (fresh : Bool) (text rest : List ℕ) (token : Body) → IsRun text rest → IsToken text token → Stands fresh (text ++ rest) (Spelled text token) rest
-word_stands fresh text rest token run is =
+pub word_stands : (at_line_start : Bool) (text rest : List ℕ) (token : Body) → IsRun text rest → IsToken text token → Stands at_line_start (text ++ rest) (Spelled text token) rest
+word_stands at_line_start text rest token run is =
     let at = word_lead text rest run in record {
       parts = refl;
       is = is;
       longest = λ other after parts part.
-          let longest = longest_run (text ++ rest) other after (admitted_at fresh (text ++ rest) Letter other after at parts part) parts in
+          let longest = longest_run (text ++ rest) other after (admitted_at at_line_start (text ++ rest) Letter other after at parts part) parts in
           omega (arith, longest, run_len text rest run);
-      no_row = no_row fresh (text ++ rest) (
+      no_refusal = no_refusal at_line_start (text ++ rest) (
         λ fits. outside_token text token (ap is_outside (sym (run_taken text rest run)) ∙ fits) is,
-        no_fit fresh (text ++ rest) Literal at refl,
-        no_fit fresh (text ++ rest) Unclosed at refl,
-        no_fit fresh (text ++ rest) Directive at refl,
+        no_fit at_line_start (text ++ rest) Literal at refl,
+        no_fit at_line_start (text ++ rest) Unclosed at refl,
+        no_fit at_line_start (text ++ rest) Directive at refl,
       );
     }
 
@@ -64,5 +64,5 @@ outside_run text rest true at run none = refl
 outside_run text rest false at run none =
     absurd (none (body.Name text) (refl, record { first = run.first; each = run.each; no_word = λ word is. none (body.Word word) is; inside = at }))
 
-pub word_refused : (fresh : Bool) (text rest : List ℕ) → IsRun text rest → ((token : Body) → IsToken text token → ⊥) → IsFirstRow fresh (text ++ rest) Profile
-word_refused fresh text rest run none = ap is_outside (run_taken text rest run) ∙ outside_run text rest (is_outside text) refl run none
+pub word_refused : (at_line_start : Bool) (text rest : List ℕ) → IsRun text rest → ((token : Body) → IsToken text token → ⊥) → IsReason at_line_start (text ++ rest) Profile
+word_refused at_line_start text rest run none = ap is_outside (run_taken text rest run) ∙ outside_run text rest (is_outside text) refl run none

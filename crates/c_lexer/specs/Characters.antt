@@ -40,16 +40,16 @@ IsItem wide quote (Octal digits) value = (0 < length digits) × (length digits �
 IsItem wide quote (Hexadecimal digits) value = (0 < length digits) × (list_all is_ascii_hexdigit digits ≡ true) × (value ≡ digits_value 16 digits) × (value ≤ greatest wide)
 
 -- an escape of digits is the longest one (6.4.4.4p7)
-abbrev pub Ends : Item → List ℕ → Type 0
-Ends (Plain byte) after = Unit {0}
-Ends (Letter byte) after = Unit {0}
-Ends (Octal digits) after = length digits < 3 → prefix_len is_octal after ≡ 0
-Ends (Hexadecimal digits) after = prefix_len is_ascii_hexdigit after ≡ 0
+abbrev pub IsLongest : Item → List ℕ → Type 0
+IsLongest (Plain byte) after = Unit {0}
+IsLongest (Letter byte) after = Unit {0}
+IsLongest (Octal digits) after = length digits < 3 → prefix_len is_octal after ≡ 0
+IsLongest (Hexadecimal digits) after = prefix_len is_ascii_hexdigit after ≡ 0
 
 -- the values of the items that the text is made of, up to what comes after it
 abbrev pub AreItems : Bool → ℕ → List Item → List ℕ → List ℕ → Type 0
 AreItems wide quote [] [] after = Unit {0}
-AreItems wide quote (item ∷ items) (value ∷ values) after = IsItem wide quote item value × Ends item (flat_map item_text items ++ after) × AreItems wide quote items values after
+AreItems wide quote (item ∷ items) (value ∷ values) after = IsItem wide quote item value × IsLongest item (flat_map item_text items ++ after) × AreItems wide quote items values after
 AreItems wide quote [] (value ∷ values) after = ⊥
 AreItems wide quote (item ∷ items) [] after = ⊥
 
@@ -59,15 +59,15 @@ unit_of false value = if nat_lt (value % 256) 128 then pos (value % 256) else po
 unit_of true value = if nat_lt (value % 4294967296) 2147483648 then pos (value % 4294967296) else pos (value % 4294967296) -ℤ pos 4294967296
 
 -- what stands before the quote: nothing, or L
-abbrev pub opening : Bool → List ℕ
-opening false = []
-opening true = codes "L"
+abbrev pub encoding_prefix : Bool → List ℕ
+encoding_prefix false = []
+encoding_prefix true = codes "L"
 
 -- a character constant: its one item between quotes
 pub record IsCharacter (text : List ℕ) (value : ℤ) (wide : Bool) : Type 0 where
   pub item : Item
   pub code : ℕ
-  pub parts : text ≡ opening wide ++ (39 ∷ (item_text item ++ (39 ∷ [])))
+  pub parts : text ≡ encoding_prefix wide ++ (39 ∷ (item_text item ++ (39 ∷ [])))
   pub fits : IsItem wide 39 item code
   pub same : value ≡ unit_of wide code
 
@@ -75,6 +75,6 @@ pub record IsCharacter (text : List ℕ) (value : ℤ) (wide : Bool) : Type 0 wh
 pub record IsLiteral (text : List ℕ) (units : List ℤ) (wide : Bool) : Type 0 where
   pub items : List Item
   pub values : List ℕ
-  pub parts : text ≡ opening wide ++ (34 ∷ (flat_map item_text items ++ (34 ∷ [])))
+  pub parts : text ≡ encoding_prefix wide ++ (34 ∷ (flat_map item_text items ++ (34 ∷ [])))
   pub fit : AreItems wide 34 items values (34 ∷ [])
   pub same : units ≡ map (unit_of wide) values

@@ -8,8 +8,8 @@ use Rattle.c_lexer.specs.Directives.{is_header}
 use Rattle.c_lexer.specs.ReadComment.{past_close, past_quote}
 
 -- what follows the word
-abbrev pub stripped : List ℕ → List ℕ → Option (List ℕ)
-stripped word text = if pointwise nat_eq (take (length word) text) word then Some (drop (length word) text) else None
+abbrev pub strip : List ℕ → List ℕ → Option (List ℕ)
+strip word text = if pointwise nat_eq (take (length word) text) word then Some (drop (length word) text) else None
 
 -- what is said of what follows, if anything does
 abbrev pub on : Option (List ℕ) → (List ℕ → Bool) → Bool
@@ -17,8 +17,8 @@ on None test = false
 on (Some text) test = test text
 
 -- what follows spaces and tabs
-abbrev pub unblank : List ℕ → List ℕ
-unblank text = drop (prefix_len (is_in class.Blank) text) text
+abbrev pub skip_blanks : List ℕ → List ℕ
+skip_blanks text = drop (prefix_len (is_in class.Blank) text) text
 
 abbrev pub all_blank : List ℕ → Bool
 all_blank = list_all (is_in class.Blank)
@@ -30,16 +30,16 @@ abbrev pub ends_include : List ℕ → Bool
 ends_include rest = is_header (take (prefix_len (is_in class.Solid) rest) rest) && all_blank (drop (prefix_len (is_in class.Solid) rest) rest)
 
 unfoldable pub is_include : List ℕ → Bool
-is_include text = on (stripped (codes "include") text) (λ after. ends_include (unblank after))
+is_include text = on (strip (codes "include") text) (λ after. ends_include (skip_blanks after))
 
 abbrev pub ends_define : List ℕ → Bool
-ends_define after = begins_blank after && on (stripped (codes "1") (unblank after)) all_blank
+ends_define after = begins_blank after && on (strip (codes "1") (skip_blanks after)) all_blank
 
 abbrev pub names_extension : List ℕ → Bool
-names_extension after = begins_blank after && on (stripped (codes "__STDC_WANT_LIB_EXT1__") (unblank after)) ends_define
+names_extension after = begins_blank after && on (strip (codes "__STDC_WANT_LIB_EXT1__") (skip_blanks after)) ends_define
 
 unfoldable pub is_define : List ℕ → Bool
-is_define text = on (stripped (codes "define") text) names_extension
+is_define text = on (strip (codes "define") text) names_extension
 
 abbrev pub ends_marker : List ℕ → Bool
 ends_marker after = on (past_quote 34 false after) (list_all (is_in class.Spaced))
@@ -47,7 +47,7 @@ ends_marker after = on (past_quote 34 false after) (list_all (is_in class.Spaced
 unfoldable pub is_marker : List ℕ → Bool
 is_marker text =
     not (prefix_len (is_in class.Decimal) text == 0)
-    && on (stripped (codes "\"") (unblank (drop (prefix_len (is_in class.Decimal) text) text))) ends_marker
+    && on (strip (codes "\"") (skip_blanks (drop (prefix_len (is_in class.Decimal) text) text))) ends_marker
 
 -- what follows the comment, the text between quotes or the byte at the front, or whether a comment goes on from here
 abbrev pub behind_close : Option (List ℕ) → Result (List ℕ) Bool
@@ -83,4 +83,4 @@ abbrev pub ends_pragma : List ℕ → Bool
 ends_pragma rest = prefix_len (is_in class.Word) rest == 0 && list_all (is_in class.Line) rest && not (goes_on rest)
 
 unfoldable pub is_pragma : List ℕ → Bool
-is_pragma text = on (stripped (codes "pragma") text) ends_pragma
+is_pragma text = on (strip (codes "pragma") text) ends_pragma

@@ -9,7 +9,7 @@ use Rattle.c_lexer.specs.declared.mode.Quote.TheVariants.{Single, Double}
 use Rattle.c_lexer.specs.Bytes.{is_letter, is_word_byte, is_white}
 use Rattle.c_lexer.specs.Lookup.{lookup}
 use Rattle.c_lexer.specs.Marks.{marks}
-use Rattle.c_lexer.specs.Rows.{is_exponent}
+use Rattle.c_lexer.specs.Refusals.{is_exponent}
 
 abbrev pub byte_of : Quote → ℕ
 byte_of Single = 39
@@ -34,15 +34,15 @@ first_of_class byte =
     else (if is_ascii_digit byte then mode.Number false
     else (if extends [] byte then mode.Mark else mode.Alien)))
 
--- behind the first byte of a part; fresh says that only white space stands before it on its line
+-- behind the first byte of a part; at_line_start says that only white space stands before it on its line
 unfoldable pub first : Bool → ℕ → Mode
-first fresh byte =
+first at_line_start byte =
     if byte == 76 then mode.Wide
     else (if byte == 34 then mode.Quoted Double false
     else (if byte == 39 then mode.Quoted Single false
     else (if byte == 46 then mode.Dot
     else (if byte == 47 then mode.Slash
-    else (if byte == 35 && fresh then mode.Directive else first_of_class byte)))))
+    else (if byte == 35 && at_line_start then mode.Directive else first_of_class byte)))))
 
 abbrev pub next_wide : ℕ → Option Mode
 next_wide byte = if is_word_byte byte then Some mode.Word else option_map (λ quote. mode.Quoted quote false) (quote_of byte)

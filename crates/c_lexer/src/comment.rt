@@ -2,7 +2,7 @@ ghost use Rattle.std.specs.Prelude.{◌≡◌, ◌≢◌, ℕ, ◌+◌, ◌≤�
 ghost use Rattle.c_lexer.specs.Comments.{NoClose, IsInner};
 ghost use Rattle.c_lexer.specs.Bytes.{is_word_byte};
 ghost use Rattle.c_lexer.specs.ReadComment as spec;
-ghost use Rattle.c_lexer.specs.Rows.{number_len, is_exponent};
+ghost use Rattle.c_lexer.specs.Refusals.{number_len, is_exponent};
 
 use crate::bytes::{Class, is_in};
 

@@ -20,7 +20,7 @@ const HEADERS: [&[u8]; 9] = [
 
 /// What follows the word, where it stands at the front.
 pub(crate) fn strip<'a>(text: &'a [u8], word: &[u8]) -> Option<&'a [u8]>
-    ensures { option_copied result ≡ spec.stripped word.now text.now }
+    ensures { option_copied result ≡ spec.strip word.now text.now }
 {
     text.strip_prefix(word)
 }

@@ -150,10 +150,10 @@ fn first_of_class(byte: u8) -> Mode
 }
 
 impl Mode {
-    /// Behind the first byte of a part; `fresh` says that it is the first on its line.
+    /// Behind the first byte of a part; `at_line_start` says that only white space stands before it on its line.
     #[tactic(auto, unfolding(crate::specs::ReadPart::first))]
-    pub(crate) fn first(fresh: bool, byte: u8) -> Mode
-        ensures { result ≡ spec.first fresh byte }
+    pub(crate) fn first(at_line_start: bool, byte: u8) -> Mode
+        ensures { result ≡ spec.first at_line_start byte }
     {
         match byte {
             b'L' => Mode::Wide,
@@ -161,7 +161,7 @@ impl Mode {
             b'\'' => Mode::Quoted(Quote::Single, false),
             b'.' => Mode::Dot,
             b'/' => Mode::Slash,
-            b'#' if fresh => Mode::Directive,
+            b'#' if at_line_start => Mode::Directive,
             _ => first_of_class(byte),
         }
     }

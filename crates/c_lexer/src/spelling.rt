@@ -3,7 +3,7 @@ ghost use Rattle.std.specs.List.{list_all};
 ghost use Rattle.c_lexer.specs.Bytes as bytes;
 ghost use Rattle.c_lexer.specs.Marks.{mark_text};
 ghost use Rattle.c_lexer.specs.Words as words;
-ghost use Rattle.c_lexer.specs.Parts.{IsToken, IsNoOther};
+ghost use Rattle.c_lexer.specs.LexicalParts.{IsToken, IsNoOther};
 ghost use Rattle.c_lexer.specs.declared.punct.Punct.{Punct};
 ghost use Rattle.c_lexer.specs.declared.token.Body.{Body};
 

@@ -1,4 +1,4 @@
--- The rows of the refusals: what fits at a place, whatever else might stand there.
+-- The refusals: which of them fit at a place, whatever else might stand there, and which of these is the reason.
 use Rattle.std.specs.Prelude.{◌≡◌, ◌⊎◌, ℕ, ℤ, ◌+◌, ◌==◌, ◌||◌, ◌&&◌, Bool, true, false, List, [], ◌∷◌, ◌++◌, take, codes, slice_index, if◌then◌else◌}
 use Rattle.std.specs.List.{prefix_len}
 use Rattle.std.specs.Char.{is_ascii_digit}
@@ -10,7 +10,7 @@ use Rattle.c_lexer.specs.Bytes.{is_word_byte}
 use Rattle.c_lexer.specs.Classes.{is_in}
 use Rattle.c_lexer.specs.Words.{is_outside}
 use Rattle.c_lexer.specs.Numbers.{IsNumber}
-use Rattle.c_lexer.specs.Characters.{opening, IsCharacter, IsLiteral}
+use Rattle.c_lexer.specs.Characters.{encoding_prefix, IsCharacter, IsLiteral}
 use Rattle.c_lexer.specs.Comments.{NoClose, IsInner}
 use Rattle.c_lexer.specs.Directives.{IsDirective}
 
@@ -37,23 +37,23 @@ pub record NoCharacter (bytes : List ℕ) : Type 0 where
   pub wide : Bool
   pub inner : List ℕ
   pub after : List ℕ
-  pub parts : bytes ≡ opening wide ++ (39 ∷ (inner ++ (39 ∷ after)))
+  pub parts : bytes ≡ encoding_prefix wide ++ (39 ∷ (inner ++ (39 ∷ after)))
   pub inside : IsInner 39 false inner
-  pub none : (value : ℤ) → IsCharacter (opening wide ++ (39 ∷ (inner ++ (39 ∷ [])))) value wide → ⊥
+  pub none : (value : ℤ) → IsCharacter (encoding_prefix wide ++ (39 ∷ (inner ++ (39 ∷ [])))) value wide → ⊥
 
 pub record NoLiteral (bytes : List ℕ) : Type 0 where
   pub wide : Bool
   pub inner : List ℕ
   pub after : List ℕ
-  pub parts : bytes ≡ opening wide ++ (34 ∷ (inner ++ (34 ∷ after)))
+  pub parts : bytes ≡ encoding_prefix wide ++ (34 ∷ (inner ++ (34 ∷ after)))
   pub inside : IsInner 34 false inner
-  pub none : (units : List ℤ) → IsLiteral (opening wide ++ (34 ∷ (inner ++ (34 ∷ [])))) units wide → ⊥
+  pub none : (units : List ℤ) → IsLiteral (encoding_prefix wide ++ (34 ∷ (inner ++ (34 ∷ [])))) units wide → ⊥
 
 -- what begins with this quote doesn't end on its line
 pub record NeverEnds (quote : ℕ) (bytes : List ℕ) : Type 0 where
   pub wide : Bool
   pub rest : List ℕ
-  pub parts : bytes ≡ opening wide ++ (quote ∷ rest)
+  pub parts : bytes ≡ encoding_prefix wide ++ (quote ∷ rest)
   pub never : (inner after : List ℕ) → rest ≡ inner ++ (quote ∷ after) → IsInner quote false inner → ⊥
 
 -- a comment that doesn't end
@@ -68,26 +68,26 @@ pub record OtherDirective (bytes : List ℕ) : Type 0 where
   pub parts : bytes ≡ codes "#" ++ rest
   pub none : IsDirective (take (prefix_len (is_in Line) bytes) bytes) → ⊥
 
--- the row fits at the front of these bytes; fresh says that they are first on their line
+-- the refusal fits at the front of these bytes; at_line_start says that only white space stands before them on their line
 abbrev pub Fits : Bool → List ℕ → Refusal → Type 0
-Fits fresh bytes Profile = is_outside (take (prefix_len is_word_byte bytes) bytes) ≡ true
-Fits fresh bytes Literal = NoNumber bytes ⊎ NoCharacter bytes ⊎ NoLiteral bytes
-Fits fresh bytes Unclosed = OpenComment bytes ⊎ NeverEnds 39 bytes ⊎ NeverEnds 34 bytes
-Fits fresh bytes Directive = (fresh ≡ true) × OtherDirective bytes
-Fits fresh bytes Char = Unit {0}
-Fits fresh bytes Size = ⊥
-Fits fresh bytes Syntax = ⊥
-Fits fresh bytes Deep = ⊥
-Fits fresh bytes (Constraint number) = ⊥
+Fits at_line_start bytes Profile = is_outside (take (prefix_len is_word_byte bytes) bytes) ≡ true
+Fits at_line_start bytes Literal = NoNumber bytes ⊎ NoCharacter bytes ⊎ NoLiteral bytes
+Fits at_line_start bytes Unclosed = OpenComment bytes ⊎ NeverEnds 39 bytes ⊎ NeverEnds 34 bytes
+Fits at_line_start bytes Directive = (at_line_start ≡ true) × OtherDirective bytes
+Fits at_line_start bytes Char = Unit {0}
+Fits at_line_start bytes Size = ⊥
+Fits at_line_start bytes Syntax = ⊥
+Fits at_line_start bytes Deep = ⊥
+Fits at_line_start bytes (Constraint number) = ⊥
 
--- the first row that fits, in the order Profile, Literal, Unclosed, Directive, Char
-abbrev pub IsFirstRow : Bool → List ℕ → Refusal → Type 0
-IsFirstRow fresh bytes Profile = Fits fresh bytes Profile
-IsFirstRow fresh bytes Literal = Fits fresh bytes Literal × (Fits fresh bytes Profile → ⊥)
-IsFirstRow fresh bytes Unclosed = Fits fresh bytes Unclosed × (Fits fresh bytes Profile → ⊥) × (Fits fresh bytes Literal → ⊥)
-IsFirstRow fresh bytes Directive = Fits fresh bytes Directive × (Fits fresh bytes Profile → ⊥) × (Fits fresh bytes Literal → ⊥) × (Fits fresh bytes Unclosed → ⊥)
-IsFirstRow fresh bytes Char = (Fits fresh bytes Profile → ⊥) × (Fits fresh bytes Literal → ⊥) × (Fits fresh bytes Unclosed → ⊥) × (Fits fresh bytes Directive → ⊥)
-IsFirstRow fresh bytes Size = ⊥
-IsFirstRow fresh bytes Syntax = ⊥
-IsFirstRow fresh bytes Deep = ⊥
-IsFirstRow fresh bytes (Constraint number) = ⊥
+-- the first refusal that fits, in the order Profile, Literal, Unclosed, Directive, Char
+abbrev pub IsReason : Bool → List ℕ → Refusal → Type 0
+IsReason at_line_start bytes Profile = Fits at_line_start bytes Profile
+IsReason at_line_start bytes Literal = Fits at_line_start bytes Literal × (Fits at_line_start bytes Profile → ⊥)
+IsReason at_line_start bytes Unclosed = Fits at_line_start bytes Unclosed × (Fits at_line_start bytes Profile → ⊥) × (Fits at_line_start bytes Literal → ⊥)
+IsReason at_line_start bytes Directive = Fits at_line_start bytes Directive × (Fits at_line_start bytes Profile → ⊥) × (Fits at_line_start bytes Literal → ⊥) × (Fits at_line_start bytes Unclosed → ⊥)
+IsReason at_line_start bytes Char = (Fits at_line_start bytes Profile → ⊥) × (Fits at_line_start bytes Literal → ⊥) × (Fits at_line_start bytes Unclosed → ⊥) × (Fits at_line_start bytes Directive → ⊥)
+IsReason at_line_start bytes Size = ⊥
+IsReason at_line_start bytes Syntax = ⊥
+IsReason at_line_start bytes Deep = ⊥
+IsReason at_line_start bytes (Constraint number) = ⊥
