@@ -71,6 +71,7 @@ pub record IsFed (progress : Progress) (bytes : List ℕ) : Type 0 where
 abbrev pub IsStopped : Progress → LexFault → Type 0
 IsStopped progress fault = progress.fault ≡ Some fault
 
+-- the fault that each call answers once a lexer takes no more
 abbrev pub fault_of : Stop → LexFault
 fault_of stop.Size = Refused Size start.pos
 fault_of (stop.Memory cause) = Memory cause

@@ -1,3 +1,4 @@
+-- The definitions of the crate.
 pub mod Bytes
 pub mod Classes
 pub mod Lookup

@@ -1,5 +1,6 @@
 -- What the bytes of an open part are, whatever comes behind them.
-use Rattle.std.specs.Prelude.{◌≡◌, ◌≢◌, ◌⊎◌, ℕ, ◌+◌, ◌==◌, ◌&&◌, Bool, true, false, List, [], ◌∷◌, ◌++◌, codes, length, slice_index, drop, Option, Some, if◌then◌else◌}
+use Rattle.std.specs.Prelude.{◌≡◌, ◌≢◌, ◌⊎◌, ℕ, ◌+◌, ◌==◌, ◌&&◌, Bool, true, false, List, [], ◌∷◌, ◌++◌, codes}
+use Rattle.std.specs.Prelude.{length, slice_index, drop, Option, Some, if◌then◌else◌}
 use Rattle.std.specs.List.{list_all}
 use Rattle.c_lexer.specs.declared.bytes.Class.TheVariants.{Line}
 use Rattle.c_lexer.specs.declared.mode.Mode.{Mode}
@@ -38,7 +39,8 @@ pub record IsOpenQuote (quote : Quote) (hidden : Bool) (text : List ℕ) : Type 
   pub wide : Bool
   pub inner : List ℕ
   pub parts : text ≡ encoding_prefix wide ++ (byte_of quote ∷ inner)
-  pub goes_on : (rest : List ℕ) → past_quote (byte_of quote) false (inner ++ rest) ≡ past_quote (byte_of quote) hidden rest
+  pub goes_on : (rest : List ℕ) → past_quote (byte_of quote) false (inner ++ rest)
+      ≡ past_quote (byte_of quote) hidden rest
 
 -- the same up to the quote that ends it
 pub record IsClosedQuote (text : List ℕ) : Type 0 where
@@ -52,6 +54,7 @@ pub record IsClosedQuote (text : List ℕ) : Type 0 where
 abbrev pub past_star : Bool → List ℕ → Option (List ℕ)
 past_star star bytes = if star && slice_index bytes 0 == 47 then Some (drop 1 bytes) else past_close bytes
 
+-- `/*` and what follows it so far, with no `*/` in it
 pub record IsOpenComment (star : Bool) (text : List ℕ) : Type 0 where
   pub body : List ℕ
   pub parts : text ≡ codes "/*" ++ body
@@ -64,6 +67,7 @@ pub record IsOpenLine (at_line_start : Bool) (text : List ℕ) : Type 0 where
   pub parts : text ≡ 35 ∷ body
   pub line : list_all (is_in Line) body ≡ true
 
+-- white space that nothing goes on with
 abbrev pub IsSpace : List ℕ → Type 0
 IsSpace text = ((byte : ℕ) × (text ≡ byte ∷ []) × (is_white byte ≡ true)) ⊎ IsBlockComment text
 

@@ -1,5 +1,6 @@
 -- How character constants and string literals are read.
-use Rattle.std.specs.Prelude.{ℕ, zero, suc, ℤ, slice_index, ◌==◌, ◌||◌, ◌&&◌, not, Bool, true, false, List, [], ◌∷◌, length, take, drop, min, Option, Some, None, if◌then◌else◌, nat_le}
+use Rattle.std.specs.Prelude.{ℕ, zero, suc, ℤ, slice_index, ◌==◌, ◌||◌, ◌&&◌, not, Bool, true, false, List, [], ◌∷◌}
+use Rattle.std.specs.Prelude.{length, take, drop, min, Option, Some, None, if◌then◌else◌, nat_le}
 use Rattle.std.specs.List.{prefix_len}
 use Rattle.std.specs.Option.{option_map}
 use Rattle.std.specs.Str.{bytes_eq}
@@ -15,7 +16,8 @@ in_range wide (Some value) after = if nat_le value (greatest wide) then Some (va
 
 -- so many digits
 unfoldable pub digits_escape : Bool → ℕ → ℕ → List ℕ → Option (ℕ × List ℕ)
-digits_escape wide radix count bytes = if count == 0 then None else in_range wide (value_of radix (take count bytes)) (drop count bytes)
+digits_escape wide radix count bytes =
+    if count == 0 then None else in_range wide (value_of radix (take count bytes)) (drop count bytes)
 
 -- behind a backslash
 unfoldable pub escape_at : Bool → List ℕ → Option (ℕ × List ℕ)
@@ -44,17 +46,20 @@ close_character wide (Some found) = if bytes_eq found.1 (39 ∷ []) then Some (u
 unfoldable pub character_of : List ℕ → Option (ℤ × Bool)
 character_of text =
     if slice_index text 0 == 39 then close_character false (item_at false 39 (drop 1 text))
-    else (if slice_index text 0 == 76 && slice_index text 1 == 39 then close_character true (item_at true 39 (drop 2 text)) else None)
+    else (if slice_index text 0 == 76 && slice_index text 1 == 39
+    then close_character true (item_at true 39 (drop 2 text)) else None)
 
--- the units at the front, as far as items go, and what follows them; the number is no less than the bytes
+-- the units at the front, as far as items go, and what follows them
 abbrev pub units_more : (List ℕ → List ℤ × List ℕ) → Bool → List ℕ → Option (ℕ × List ℕ) → List ℤ × List ℕ
 units_more go wide bytes None = ([], bytes)
 units_more go wide bytes (Some found) = (unit_of wide found.0 ∷ (go found.1).0, (go found.1).1)
 
+-- in so many turns, which are to be no fewer than the bytes
 abbrev pub units_from : ℕ → Bool → List ℕ → List ℤ × List ℕ
 units_from zero wide bytes = ([], bytes)
 units_from (suc n) wide bytes = units_more (units_from n wide) wide bytes (item_at wide 34 bytes)
 
+-- in as many turns as there are bytes
 unfoldable pub units_at : Bool → List ℕ → List ℤ × List ℕ
 units_at wide bytes = units_from (length bytes) wide bytes
 
@@ -66,4 +71,5 @@ close_literal wide found = if bytes_eq found.1 (34 ∷ []) then Some (found.0, w
 unfoldable pub literal_of : List ℕ → Option (List ℤ × Bool)
 literal_of text =
     if slice_index text 0 == 34 then close_literal false (units_at false (drop 1 text))
-    else (if slice_index text 0 == 76 && slice_index text 1 == 34 then close_literal true (units_at true (drop 2 text)) else None)
+    else (if slice_index text 0 == 76 && slice_index text 1 == 34
+    then close_literal true (units_at true (drop 2 text)) else None)

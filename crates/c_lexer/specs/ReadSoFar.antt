@@ -14,6 +14,7 @@ pub data Ahead : Type 0 where
   Byte : ℕ → Ahead
   End : Ahead
 
+-- the bytes that come are such
 abbrev pub Follows : Ahead → List ℕ → Type 0
 Follows Anything rest = Unit {0}
 Follows (Byte byte) rest = (after : List ℕ) × (rest ≡ byte ∷ after)
@@ -32,6 +33,7 @@ pub record IsSplitSoFar (ahead : Ahead) (r : ReaderState) (bytes : List ℕ) : T
   pub place : r.place ≡ place_after start parts
   pub part : IsOpenPart r.place.at_line_start r.mode r.text
 
+-- split so far, or refused
 abbrev pub IsReadOr : Option (Refusal × Pos) → Ahead → ReaderState → List ℕ → Type 0
 IsReadOr None ahead r bytes = IsSplitSoFar ahead r bytes
 IsReadOr (Some found) ahead r bytes = (rest : List ℕ) → Follows ahead rest → IsRefused (bytes ++ rest) found.0 found.1

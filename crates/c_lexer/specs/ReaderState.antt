@@ -1,5 +1,6 @@
 -- What a reader holds: the tokens of the parts that ended, and the part that is open; and its steps.
-use Rattle.std.specs.Prelude.{◌≡◌, ◌+◌, ◌≤◌, ◌&&◌, ℕ, Bool, true, false, List, [], ◌∷◌, ◌++◌, length, Option, Some, None}
+use Rattle.std.specs.Prelude.{◌≡◌, ◌+◌, ◌≤◌, ◌&&◌, ℕ, Bool, true, false, List, [], ◌∷◌, ◌++◌, length}
+use Rattle.std.specs.Prelude.{Option, Some, None}
 use Rattle.critical_table.specs.declared.pos.Pos.{Pos}
 use Rattle.critical_table.specs.declared.refusal.Refusal.{Refusal}
 use Rattle.critical_table.specs.declared.refusal.Refusal.TheVariants.{Char, Unclosed, Literal, Directive, Profile}
@@ -14,12 +15,13 @@ use Rattle.c_lexer.specs.declared.token.Token.{Token}
 use Rattle.c_lexer.specs.declared.token.Body.{Body}
 use Rattle.c_lexer.specs.declared.token.Body.TheVariants as body
 use Rattle.c_lexer.specs.Directives.{IsDirective}
-use Rattle.c_lexer.specs.Lexing.{start, tokens_of, place_after, place_behind, Splits, IsRefused}
-use Rattle.c_lexer.specs.Open.{IsOpen}
+use Rattle.c_lexer.specs.Lexing.{start, place_behind}
 use Rattle.c_lexer.specs.ReadPart.{first, next, is_dots, is_other}
 use Rattle.c_lexer.specs.Placed.{IsPlaced}
-use Rattle.c_lexer.specs.LexicalParts.{Part, White, Spelled, IsToken}
+use Rattle.c_lexer.specs.LexicalParts.{White, Spelled, IsToken}
 
+-- what a reader holds, as contracts see it: tokens, the text of the open part and what it is, the place where that
+-- part begins, and a refusal
 pub record ReaderState : Type 0 where
   pub tokens : List Token
   pub text : List ℕ
@@ -27,8 +29,10 @@ pub record ReaderState : Type 0 where
   pub place : Place
   pub refused : Option (Refusal × Pos)
 
+-- of the struct
 abbrev pub state_of : Reader → ReaderState
-state_of r = record { tokens = r.tokens.items; text = r.text.items; mode = r.mode; place = r.place; refused = r.refused }
+state_of r =
+    record { tokens = r.tokens.items; text = r.text.items; mode = r.mode; place = r.place; refused = r.refused }
 
 -- nothing was fed
 abbrev pub start_state : ReaderState
@@ -45,15 +49,19 @@ after_white r = record r { text = []; mode = None; place = place_behind r.place 
 -- the open part is this token
 abbrev pub after_token : ReaderState → Body → ReaderState
 after_token r body = record r {
-  tokens = r.tokens ++ (record { body = body; from = r.place.at; to = r.place.at + length r.text; pos = r.place.pos } ∷ []);
+  tokens =
+      r.tokens
+      ++ (record { body = body; from = r.place.at; to = r.place.at + length r.text; pos = r.place.pos } ∷ []);
   text = [];
   mode = None;
   place = place_behind r.place (Spelled r.text body);
 }
 
+-- no part stands at the place of the open part
 abbrev pub after_refusal : ReaderState → Refusal → ReaderState
 after_refusal r why = record r { refused = Some (why, r.place.pos) }
 
+-- the open part is this
 abbrev pub after_ending : ReaderState → Ending → ReaderState
 after_ending r ending.White = after_white r
 after_ending r (ending.Token body) = after_token r body
@@ -65,6 +73,7 @@ EndsTokenAs why text ending.White = ⊥
 EndsTokenAs why text (ending.Token body) = IsToken text body
 EndsTokenAs why text (ending.Refused reason) = (reason ≡ why) × ((token : Body) → IsToken text token → ⊥)
 
+-- a line from `#` on is white space, or it is no directive that is taken and is refused
 abbrev pub EndsDirectiveAs : List ℕ → Ending → Type 0
 EndsDirectiveAs text ending.White = IsDirective text
 EndsDirectiveAs text (ending.Token body) = ⊥
@@ -115,9 +124,11 @@ is_pair (Some here) next = is_dots here && is_other next
 abbrev pub after_first_point : ReaderState → List ℕ → ℕ → ReaderState
 after_first_point r text point = after_byte (after_token (record r { text = text }) (body.Mark p.Dot)) mode.Dot point
 
+-- two points were parted, or nothing happened
 abbrev pub IsParted : Bool → ReaderState → ReaderState → Type 0
 IsParted false before after = after ≡ before
-IsParted true before after = (text : List ℕ) (point : ℕ) → before.text ≡ text ++ (point ∷ []) → after ≡ after_first_point before text point
+IsParted true before after =
+    (text : List ℕ) (point : ℕ) → before.text ≡ text ++ (point ∷ []) → after ≡ after_first_point before text point
 
 -- no further on than its bytes, of which there are so many
 pub record IsWithin (r : ReaderState) (size : ℕ) : Type 0 where

@@ -1,9 +1,11 @@
 -- The refusals: which of them fit at a place, whatever else might stand there, and which of these is the reason.
-use Rattle.std.specs.Prelude.{◌≡◌, ◌⊎◌, ℕ, ℤ, ◌+◌, ◌==◌, ◌||◌, ◌&&◌, Bool, true, false, List, [], ◌∷◌, ◌++◌, take, codes, slice_index, if◌then◌else◌}
+use Rattle.std.specs.Prelude.{◌≡◌, ◌⊎◌, ℕ, ℤ, ◌+◌, ◌==◌, ◌||◌, ◌&&◌, Bool, true, false, List, [], ◌∷◌, ◌++◌, take}
+use Rattle.std.specs.Prelude.{codes, slice_index, if◌then◌else◌}
 use Rattle.std.specs.List.{prefix_len}
 use Rattle.std.specs.Char.{is_ascii_digit}
 use Rattle.critical_table.specs.declared.refusal.Refusal.{Refusal}
-use Rattle.critical_table.specs.declared.refusal.Refusal.TheVariants.{Size, Char, Unclosed, Literal, Directive, Profile, Syntax, Deep, Constraint}
+use Rattle.critical_table.specs.declared.refusal.Refusal.TheVariants.{Size, Char, Unclosed, Literal, Directive}
+use Rattle.critical_table.specs.declared.refusal.Refusal.TheVariants.{Profile, Syntax, Deep, Constraint}
 use Rattle.c_lexer.specs.declared.bytes.Class.TheVariants.{Line}
 use Rattle.c_lexer.specs.declared.number.Number.{Number}
 use Rattle.c_lexer.specs.Bytes.{is_word_byte}
@@ -18,19 +20,25 @@ use Rattle.c_lexer.specs.Directives.{IsDirective}
 abbrev pub is_exponent : ℕ → Bool
 is_exponent byte = byte == 101 || byte == 69 || byte == 112 || byte == 80
 
--- how far a number goes on: letters, digits, `_`, `.`, and a sign behind e, E, p or P (6.4.8)
+-- the byte goes on with a number: a letter, a digit, `_`, `.`, or a sign where one may follow (6.4.8)
+abbrev pub goes_on_number : Bool → ℕ → Bool
+goes_on_number sign byte = is_word_byte byte || byte == 46 || (sign && (byte == 43 || byte == 45))
+
+-- how far a number goes on
 abbrev pub number_len : Bool → List ℕ → ℕ
 number_len sign [] = 0
 number_len sign (byte ∷ bytes) =
-    if is_word_byte byte || byte == 46 || (sign && (byte == 43 || byte == 45)) then 1 + number_len (is_exponent byte) bytes else 0
+    if goes_on_number sign byte then 1 + number_len (is_exponent byte) bytes else 0
 
 -- a digit, or `.` and a digit
 abbrev pub begins_number : List ℕ → Bool
-begins_number bytes = is_ascii_digit (slice_index bytes 0) || (slice_index bytes 0 == 46 && is_ascii_digit (slice_index bytes 1))
+begins_number bytes = is_ascii_digit (slice_index bytes 0)
+    || (slice_index bytes 0 == 46 && is_ascii_digit (slice_index bytes 1))
 
 -- what begins as a number is none
 abbrev pub NoNumber : List ℕ → Type 0
-NoNumber bytes = (begins_number bytes ≡ true) × ((number : Number) → IsNumber (take (number_len false bytes) bytes) number → ⊥)
+NoNumber bytes = (begins_number bytes ≡ true)
+    × ((number : Number) → IsNumber (take (number_len false bytes) bytes) number → ⊥)
 
 -- what ends as a character constant or a literal does is none
 pub record NoCharacter (bytes : List ℕ) : Type 0 where
@@ -41,6 +49,7 @@ pub record NoCharacter (bytes : List ℕ) : Type 0 where
   pub inside : IsInner 39 false inner
   pub none : (value : ℤ) → IsCharacter (encoding_prefix wide ++ (39 ∷ (inner ++ (39 ∷ [])))) value wide → ⊥
 
+-- the same of a string literal
 pub record NoLiteral (bytes : List ℕ) : Type 0 where
   pub wide : Bool
   pub inner : List ℕ
@@ -68,7 +77,8 @@ pub record OtherDirective (bytes : List ℕ) : Type 0 where
   pub parts : bytes ≡ codes "#" ++ rest
   pub none : IsDirective (take (prefix_len (is_in Line) bytes) bytes) → ⊥
 
--- the refusal fits at the front of these bytes; at_line_start says that only white space stands before them on their line
+-- the refusal fits at the front of these bytes; at_line_start says that only white space stands before them on their
+-- line
 abbrev pub Fits : Bool → List ℕ → Refusal → Type 0
 Fits at_line_start bytes Profile = is_outside (take (prefix_len is_word_byte bytes) bytes) ≡ true
 Fits at_line_start bytes Literal = NoNumber bytes ⊎ NoCharacter bytes ⊎ NoLiteral bytes
@@ -84,9 +94,12 @@ Fits at_line_start bytes (Constraint number) = ⊥
 abbrev pub IsReason : Bool → List ℕ → Refusal → Type 0
 IsReason at_line_start bytes Profile = Fits at_line_start bytes Profile
 IsReason at_line_start bytes Literal = Fits at_line_start bytes Literal × (Fits at_line_start bytes Profile → ⊥)
-IsReason at_line_start bytes Unclosed = Fits at_line_start bytes Unclosed × (Fits at_line_start bytes Profile → ⊥) × (Fits at_line_start bytes Literal → ⊥)
-IsReason at_line_start bytes Directive = Fits at_line_start bytes Directive × (Fits at_line_start bytes Profile → ⊥) × (Fits at_line_start bytes Literal → ⊥) × (Fits at_line_start bytes Unclosed → ⊥)
-IsReason at_line_start bytes Char = (Fits at_line_start bytes Profile → ⊥) × (Fits at_line_start bytes Literal → ⊥) × (Fits at_line_start bytes Unclosed → ⊥) × (Fits at_line_start bytes Directive → ⊥)
+IsReason at_line_start bytes Unclosed = Fits at_line_start bytes Unclosed × (Fits at_line_start bytes Profile → ⊥)
+    × (Fits at_line_start bytes Literal → ⊥)
+IsReason at_line_start bytes Directive = Fits at_line_start bytes Directive × (Fits at_line_start bytes Profile → ⊥)
+    × (Fits at_line_start bytes Literal → ⊥) × (Fits at_line_start bytes Unclosed → ⊥)
+IsReason at_line_start bytes Char = (Fits at_line_start bytes Profile → ⊥) × (Fits at_line_start bytes Literal → ⊥)
+    × (Fits at_line_start bytes Unclosed → ⊥) × (Fits at_line_start bytes Directive → ⊥)
 IsReason at_line_start bytes Size = ⊥
 IsReason at_line_start bytes Syntax = ⊥
 IsReason at_line_start bytes Deep = ⊥

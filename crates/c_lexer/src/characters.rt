@@ -1,4 +1,7 @@
-ghost use Rattle.std.specs.Prelude.{◌≡◌, ℕ, ℤ, ◌≤◌, ◌<◌, min, map, Bool, IfSome, IfNone, IfOk, length, List};
+//! Reads character constants and string literals (6.4.4.4, 6.4.5).
+
+ghost use Rattle.std.specs.Prelude.{◌≡◌, ◌≤◌, ◌<◌, ℕ, ℤ, Bool, List, min, map, length};
+ghost use Rattle.std.specs.Prelude.{IfSome, IfNone, IfOk};
 ghost use Rattle.std.specs.List.{prefix_len};
 ghost use Rattle.std.specs.Option.{option_map};
 ghost use Rattle.c_lexer.specs.Bytes.{is_octal};
@@ -54,7 +57,8 @@ fn greatest(wide: bool) -> u64
 fn digits_escape(wide: bool, radix: u64, count: usize, bytes: &[u8]) -> Option<(u64, &[u8])>
     requires radix { 1 ≤ radix }
     requires within { count ≤ length bytes.now }
-    ensures value { option_map (λ found. (found.0, found.1.now)) result ≡ spec.digits_escape wide radix count bytes.now }
+    ensures value { option_map (λ found. (found.0, found.1.now)) result
+        ≡ spec.digits_escape wide radix count bytes.now }
     ensures shorter { IfSome result (λ found. length found.1.now < length bytes.now) }
 {
     if count == 0 {
@@ -190,7 +194,8 @@ fn close_literal(
     wide: bool,
     bytes: &[u8],
 ) -> Result<Option<(Vec<i64>, bool)>, AllocError>
-    ensures { IfOk result (λ found. option_map (λ x. (x.0.items, x.1)) found ≡ spec.close_literal wide (spec.units_at wide bytes.now)) }
+    ensures { IfOk result
+        (λ found. option_map (λ x. (x.0.items, x.1)) found ≡ spec.close_literal wide (spec.units_at wide bytes.now)) }
 {
     let (units, after) = units_at(alloc, wide, bytes)?;
     if after == b"\"".as_slice() {
@@ -222,7 +227,8 @@ pub(crate) fn character_of(text: &[u8]) -> Option<(i32, bool)>
 /// The units of the string literal that the whole text spells, and whether it is wide, if it spells one (6.4.5).
 pub(crate) fn literal_of(alloc: Global, text: &[u8]) -> Result<Option<(Vec<i64>, bool)>, AllocError>
     ensures found { IfOk result (λ r. IfSome r (λ found. characters.IsLiteral text.now found.0.items found.1)) }
-    ensures none { IfOk result (λ r. IfNone r ((units : List ℤ) (wide : Bool) → characters.IsLiteral text.now units wide → ⊥)) }
+    ensures none { IfOk result
+        (λ r. IfNone r ((units : List ℤ) (wide : Bool) → characters.IsLiteral text.now units wide → ⊥)) }
 {
     read_literal(alloc, text)
 }

@@ -1,3 +1,5 @@
+//! Reads the directive lines that are taken, but for pragmas (6.10.2, 6.10.3).
+
 ghost use Rattle.std.specs.Prelude.{◌≡◌, ◌↔◌, option_copied, IsTrue};
 ghost use Rattle.c_lexer.specs.Directives.{is_header, IsInclude, IsDefine, IsMarker};
 ghost use Rattle.c_lexer.specs.ReadDirective as spec;

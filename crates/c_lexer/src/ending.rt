@@ -1,3 +1,5 @@
+//! Decides what the open part is, once it ends.
+
 ghost use Rattle.std.specs.Prelude.{IfOk};
 ghost use Rattle.c_lexer.specs.ReaderState.{EndsAs, EndsTokenAs, EndsDirectiveAs};
 

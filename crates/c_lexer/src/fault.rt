@@ -1,3 +1,5 @@
+//! Why there are no tokens.
+
 use critical_table::{Pos, Refusal};
 use std::alloc::AllocError;
 use thiserror::Error;

@@ -1,4 +1,7 @@
-ghost use Rattle.std.specs.Prelude.{◌≡◌, ◌+◌, ◌<◌, ◌≤◌, ℕ, List, [], ◌++◌, length, Err, OnOk, IfOk, IfErr};
+//! Takes the bytes of a unit in pieces, and gives its tokens.
+
+ghost use Rattle.std.specs.Prelude.{◌≡◌, ◌+◌, ◌<◌, ◌≤◌, ℕ, List, [], ◌++◌, length};
+ghost use Rattle.std.specs.Prelude.{Err, OnOk, IfOk, IfErr};
 ghost use Rattle.c_lexer.specs.declared.fault.LexFault.{LexFault};
 ghost use Rattle.critical_table.specs.declared.refusal.Refusal.TheVariants as refusal;
 ghost use Rattle.c_lexer.specs.declared.lexer.Stop.{Stop};
@@ -39,7 +42,8 @@ fn read_piece(reader: &mut Reader, size: u32, piece: &[u8]) -> Result<u32, Stop>
     requires few { size ≤ greatest_size }
     ensures size { IfOk result (λ now. (now ≡ size + length piece.now) × (now ≤ greatest_size)) }
     ensures within { IfOk result (λ now. IsWithin (state_of reader.new) now) }
-    ensures read { OnOk result ((bytes : List ℕ) → IsRead Anything (state_of reader.old) bytes → IsRead Anything (state_of reader.new) (bytes ++ piece.now)) }
+    ensures read { OnOk result ((bytes : List ℕ) → IsRead Anything (state_of reader.old) bytes
+        → IsRead Anything (state_of reader.new) (bytes ++ piece.now)) }
     ensures many { IfErr result (λ why. IsFeedFault (size + length piece.now) (fault_of why)) }
     ensures too_many { greatest_size < size + length piece.now → result ≡ Err Stop.Size }
 {
@@ -91,10 +95,13 @@ impl Lexer {
     /// the first place; after it, and after want of memory, each later call answers the same.
     pub fn feed(&mut self, piece: &[u8]) -> Result<(), LexFault>
         ensures fed { OnOk result ((bytes : List ℕ) → IsFed self.old bytes → IsFed self.new (bytes ++ piece.now)) }
-        ensures cause { IfErr result (λ fault. (bytes : List ℕ) → IsFed self.old bytes → IsFeedFault (length (bytes ++ piece.now)) fault) }
-        ensures too_many { (bytes : List ℕ) → IsFed self.old bytes → greatest_size < length (bytes ++ piece.now) → result ≡ Err (LexFault.Refused refusal.Size start.pos) }
+        ensures cause { IfErr result
+            (λ fault. (bytes : List ℕ) → IsFed self.old bytes → IsFeedFault (length (bytes ++ piece.now)) fault) }
+        ensures too_many { (bytes : List ℕ) → IsFed self.old bytes → greatest_size < length (bytes ++ piece.now)
+            → result ≡ Err (LexFault.Refused refusal.Size start.pos) }
         ensures stopped { IfErr result (λ fault. IsStopped self.new fault) }
-        ensures stays { (fault : LexFault) → IsStopped self.old fault → (result ≡ Err fault) × IsStopped self.new fault }
+        ensures stays { (fault : LexFault) → IsStopped self.old fault
+            → (result ≡ Err fault) × IsStopped self.new fault }
     {
         match self.stop {
             Some(stop) => Err(fault_of(stop)),

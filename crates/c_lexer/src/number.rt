@@ -1,3 +1,5 @@
+//! Reads integer constants (6.4.4.1).
+
 ghost use Rattle.std.specs.Prelude.{◌≡◌, ◌≤◌, ◌<◌, ◌^◌, IfSome, IfNone};
 ghost use Rattle.std.specs.Char.{digit_value};
 ghost use Rattle.c_lexer.specs.Lookup.{lookup};

@@ -1,3 +1,5 @@
+//! Counts bytes, lines and columns, and knows where a line begins.
+
 ghost use Rattle.std.specs.Prelude.{◌≡◌, ◌+◌, ◌<◌, ◌≤◌, ◌^◌, ◌==◌, length};
 ghost use Rattle.std.specs.List.{list_any};
 ghost use Rattle.c_lexer.specs.declared.token.Body.{Body};
@@ -67,7 +69,11 @@ impl Place {
     fn behind(self, text: &[u8], at_line_start: bool) -> Place
         requires placed { IsPlaced self }
         requires room { self.at + length text.now ≤ 4194304 }
-        ensures value { result ≡ record { at = self.at + length text.now; pos = spec.behind self.pos text.now; at_line_start = at_line_start } }
+        ensures value { result ≡ record {
+          at = self.at + length text.now;
+          pos = spec.behind self.pos text.now;
+          at_line_start = at_line_start;
+        } }
         ensures placed { IsPlaced result }
     {
         Place {

@@ -1,10 +1,13 @@
+//! Splits the bytes of a unit into parts: white spaces and tokens (6.4).
+
 ghost use Rattle.std.specs.Prelude.{◌≡◌, ◌+◌, ◌≤◌, ℕ, true, List, [], ◌∷◌, ◌++◌, length, OnOk, IfOk, IfErr};
 ghost use Rattle.c_lexer.specs.Lexing.{AreTokens, greatest_size};
 ghost use Rattle.c_lexer.specs.Feeding.{IsReadFault};
 ghost use Rattle.c_lexer.specs.declared.mode.Mode.TheVariants as mode;
 ghost use Rattle.c_lexer.specs.Placed.{IsPlaced};
 ghost use Rattle.c_lexer.specs.ReadPart.{is_other};
-ghost use Rattle.c_lexer.specs.ReaderState.{state_of, start_state, after_byte, after_white, after_token, after_ending, Closes, next_part, BeginsOr, IsParted, is_pair, IsWithin, reach};
+ghost use Rattle.c_lexer.specs.ReaderState.{state_of, start_state, after_byte, after_white, after_token, after_ending};
+ghost use Rattle.c_lexer.specs.ReaderState.{Closes, next_part, BeginsOr, IsParted, is_pair, IsWithin, reach};
 ghost use Rattle.c_lexer.specs.ReadSoFar.{IsRead, Anything, Byte, End};
 
 use crate::ending::{Ending, end_of};
@@ -49,7 +52,8 @@ impl Reader {
     /// The byte goes on with the open part, or begins one.
     fn go_on(&mut self, mode: Mode, byte: u8) -> Result<(), AllocError>
         ensures ok { OnOk result (state_of self.new ≡ after_byte (state_of self.old) mode byte) }
-        ensures within { OnOk result (IsPlaced self.old.place → IsWithin (state_of self.new) (reach (state_of self.old) + 1)) }
+        ensures within { OnOk result (IsPlaced self.old.place
+            → IsWithin (state_of self.new) (reach (state_of self.old) + 1)) }
     {
         self.text.push(byte)?;
         self.mode = Some(mode);
@@ -134,7 +138,8 @@ impl Reader {
     /// The byte begins a part, unless the bytes are refused.
     fn begin(&mut self, byte: u8) -> Result<(), AllocError>
         ensures ok { OnOk result (BeginsOr self.old.refused (state_of self.old) byte (state_of self.new)) }
-        ensures within { OnOk result (IsPlaced self.old.place → IsWithin (state_of self.new) (reach (state_of self.old) + 1)) }
+        ensures within { OnOk result (IsPlaced self.old.place
+            → IsWithin (state_of self.new) (reach (state_of self.old) + 1)) }
     {
         if self.refused.is_some() {
             return Ok(());
@@ -170,10 +175,14 @@ impl Reader {
         }
     }
 
-    /// The byte goes on with the open part, or ends it and begins the next; two points are no open part before another byte.
+    /// The byte goes on with the open part, or ends it and begins the next; two points are no open part before
+    /// another byte.
     fn follow(&mut self, byte: u8) -> Result<(), AllocError>
         requires { IsWithin (state_of self.old) 4194303 }
-        ensures read { OnOk result ((bytes : List ℕ) → self.old.refused ≡ None → (self.old.mode ≡ Some mode.Dots → byte ≡ 46) → IsRead (Byte byte) (state_of self.old) bytes → IsRead Anything (state_of self.new) (bytes ++ (byte ∷ []))) }
+        ensures read { OnOk result ((bytes : List ℕ) → self.old.refused ≡ None
+            → (self.old.mode ≡ Some mode.Dots → byte ≡ 46)
+            → IsRead (Byte byte) (state_of self.old) bytes
+            → IsRead Anything (state_of self.new) (bytes ++ (byte ∷ []))) }
         ensures within { OnOk result (IsWithin (state_of self.new) (reach (state_of self.old) + 1)) }
     {
         match self.next(byte) {
@@ -188,7 +197,8 @@ impl Reader {
     /// Takes the next byte.
     fn take(&mut self, byte: u8) -> Result<(), AllocError>
         requires { IsWithin (state_of self.old) 4194303 }
-        ensures read { OnOk result ((bytes : List ℕ) → IsRead Anything (state_of self.old) bytes → IsRead Anything (state_of self.new) (bytes ++ (byte ∷ []))) }
+        ensures read { OnOk result ((bytes : List ℕ) → IsRead Anything (state_of self.old) bytes
+            → IsRead Anything (state_of self.new) (bytes ++ (byte ∷ []))) }
         ensures within { OnOk result (IsWithin (state_of self.new) (reach (state_of self.old) + 1)) }
     {
         if self.refused.is_some() {
@@ -202,7 +212,8 @@ impl Reader {
     pub(crate) fn take_all(&mut self, piece: &[u8]) -> Result<(), AllocError>
         requires placed { IsPlaced self.old.place }
         requires room { reach (state_of self.old) + length piece.now ≤ 4194304 }
-        ensures read { OnOk result ((bytes : List ℕ) → IsRead Anything (state_of self.old) bytes → IsRead Anything (state_of self.new) (bytes ++ piece.now)) }
+        ensures read { OnOk result ((bytes : List ℕ) → IsRead Anything (state_of self.old) bytes
+            → IsRead Anything (state_of self.new) (bytes ++ piece.now)) }
         ensures within { OnOk result (IsWithin (state_of self.new) (reach (state_of self.old) + length piece.now)) }
     {
         for byte in piece {
@@ -214,7 +225,8 @@ impl Reader {
     /// Nothing comes any more: ends what is open.
     pub(crate) fn finish(&mut self) -> Result<(), AllocError>
         requires { IsWithin (state_of self.old) 4194304 }
-        ensures read { OnOk result ((bytes : List ℕ) → IsRead Anything (state_of self.old) bytes → IsRead End (state_of self.new) bytes) }
+        ensures read { OnOk result ((bytes : List ℕ) → IsRead Anything (state_of self.old) bytes
+            → IsRead End (state_of self.new) bytes) }
         ensures whole { OnOk result (self.new.refused ≡ None → self.new.mode ≡ None) }
     {
         if self.refused.is_some() {
@@ -227,8 +239,10 @@ impl Reader {
     /// The tokens that were read, or why there are none, where nothing comes any more.
     pub(crate) fn into_tokens(mut self) -> Result<Tokens, LexFault>
         requires { IsWithin (state_of self) greatest_size }
-        ensures tokens { IfOk result (λ stream. (bytes : List ℕ) → IsRead Anything (state_of self) bytes → AreTokens bytes stream) }
-        ensures refused { IfErr result (λ fault. (bytes : List ℕ) → IsRead Anything (state_of self) bytes → IsReadFault bytes fault) }
+        ensures tokens { IfOk result (λ stream. (bytes : List ℕ) → IsRead Anything (state_of self) bytes
+            → AreTokens bytes stream) }
+        ensures refused { IfErr result (λ fault. (bytes : List ℕ) → IsRead Anything (state_of self) bytes
+            → IsReadFault bytes fault) }
     {
         self.finish()?;
         match self.refused {

@@ -1,3 +1,5 @@
+//! Tests: values of each class of tokens, where parts end, and refusals with their places.
+
 use crate::characters::{character_of, literal_of};
 use crate::fault::LexFault;
 use crate::lexer::{Lexer, lex};

@@ -1,3 +1,5 @@
+//! Tokens, with their values and places (6.4).
+
 use crate::number::Number;
 use crate::punct::Punct;
 use crate::units::Units;
