@@ -29,7 +29,7 @@ pub record ReaderState : Type 0 where
   pub place : Place
   pub refused : Option (Refusal × Pos)
 
--- of the struct
+-- what this reader holds
 abbrev pub state_of : Reader → ReaderState
 state_of r =
     record { tokens = r.tokens.items; text = r.text.items; mode = r.mode; place = r.place; refused = r.refused }

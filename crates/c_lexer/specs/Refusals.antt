@@ -27,18 +27,17 @@ goes_on_number sign byte = is_word_byte byte || byte == 46 || (sign && (byte == 
 -- how far a number goes on
 abbrev pub number_len : Bool → List ℕ → ℕ
 number_len sign [] = 0
-number_len sign (byte ∷ bytes) =
-    if goes_on_number sign byte then 1 + number_len (is_exponent byte) bytes else 0
+number_len sign (byte ∷ bytes) = if goes_on_number sign byte then 1 + number_len (is_exponent byte) bytes else 0
 
 -- a digit, or `.` and a digit
 abbrev pub begins_number : List ℕ → Bool
-begins_number bytes = is_ascii_digit (slice_index bytes 0)
-    || (slice_index bytes 0 == 46 && is_ascii_digit (slice_index bytes 1))
+begins_number bytes =
+    is_ascii_digit (slice_index bytes 0) || (slice_index bytes 0 == 46 && is_ascii_digit (slice_index bytes 1))
 
 -- what begins as a number is none
 abbrev pub NoNumber : List ℕ → Type 0
-NoNumber bytes = (begins_number bytes ≡ true)
-    × ((number : Number) → IsNumber (take (number_len false bytes) bytes) number → ⊥)
+NoNumber bytes =
+    (begins_number bytes ≡ true) × ((number : Number) → IsNumber (take (number_len false bytes) bytes) number → ⊥)
 
 -- what ends as a character constant or a literal does is none
 pub record NoCharacter (bytes : List ℕ) : Type 0 where
@@ -94,11 +93,15 @@ Fits at_line_start bytes (Constraint number) = ⊥
 abbrev pub IsReason : Bool → List ℕ → Refusal → Type 0
 IsReason at_line_start bytes Profile = Fits at_line_start bytes Profile
 IsReason at_line_start bytes Literal = Fits at_line_start bytes Literal × (Fits at_line_start bytes Profile → ⊥)
-IsReason at_line_start bytes Unclosed = Fits at_line_start bytes Unclosed × (Fits at_line_start bytes Profile → ⊥)
-    × (Fits at_line_start bytes Literal → ⊥)
-IsReason at_line_start bytes Directive = Fits at_line_start bytes Directive × (Fits at_line_start bytes Profile → ⊥)
-    × (Fits at_line_start bytes Literal → ⊥) × (Fits at_line_start bytes Unclosed → ⊥)
-IsReason at_line_start bytes Char = (Fits at_line_start bytes Profile → ⊥) × (Fits at_line_start bytes Literal → ⊥)
+IsReason at_line_start bytes Unclosed =
+    Fits at_line_start bytes Unclosed
+    × (Fits at_line_start bytes Profile → ⊥) × (Fits at_line_start bytes Literal → ⊥)
+IsReason at_line_start bytes Directive =
+    Fits at_line_start bytes Directive
+    × (Fits at_line_start bytes Profile → ⊥) × (Fits at_line_start bytes Literal → ⊥)
+    × (Fits at_line_start bytes Unclosed → ⊥)
+IsReason at_line_start bytes Char =
+    (Fits at_line_start bytes Profile → ⊥) × (Fits at_line_start bytes Literal → ⊥)
     × (Fits at_line_start bytes Unclosed → ⊥) × (Fits at_line_start bytes Directive → ⊥)
 IsReason at_line_start bytes Size = ⊥
 IsReason at_line_start bytes Syntax = ⊥

@@ -118,7 +118,8 @@ impl Lexer {
         }
     }
 
-    /// The tokens of the bytes that were fed, or the fault that they have.
+    /// The tokens of the bytes that were fed, or the fault that they have: one that `feed` answered, Refused as `lex`
+    /// says, or want of memory.
     pub fn finish(self) -> Result<Tokens, LexFault>
         ensures tokens { IfOk result (λ stream. (bytes : List ℕ) → IsFed self bytes → AreOnlyTokens bytes stream) }
         ensures refused { IfErr result (λ fault. (bytes : List ℕ) → IsFed self bytes → IsFault bytes fault) }
