@@ -42,23 +42,26 @@ abbrev pub EndsLine : List ℕ → Type 0
 EndsLine [] = Unit {0}
 EndsLine (byte ∷ bytes) = byte ≡ 10
 
--- one of the six bytes, a comment, or a directive line; that stands only where fresh says that it is first on its line
+-- one of the six bytes, a comment, or a directive line; that stands only where white space alone comes before it on
+-- its line
 abbrev pub IsWhite : Bool → List ℕ → List ℕ → Type 0
-IsWhite fresh text after =
+IsWhite at_line_start text after =
     ((byte : ℕ) × (text ≡ byte ∷ []) × (is_white byte ≡ true))
     ⊎ IsLineComment text
     ⊎ IsBlockComment text
-    ⊎ ((fresh ≡ true) × IsDirective text × EndsLine after)
+    ⊎ ((at_line_start ≡ true) × IsDirective text × EndsLine after)
 
 -- a white space, or the spelling of a token
 pub data Part : Type 0 where
   White : List ℕ → Part
   Spelled : List ℕ → Body → Part
 
+-- the bytes of the part
 abbrev pub part_text : Part → List ℕ
 part_text (White text) = text
 part_text (Spelled text token) = text
 
+-- the text may stand as this part, where these bytes come behind it
 abbrev pub IsPart : Bool → Part → List ℕ → Type 0
-IsPart fresh (White text) after = IsWhite fresh text after
-IsPart fresh (Spelled text token) after = IsToken text token
+IsPart at_line_start (White text) after = IsWhite at_line_start text after
+IsPart at_line_start (Spelled text token) after = IsToken text token
