@@ -83,6 +83,7 @@ none_whole stream why pos at begins =
     at.first (begins_before greatest_height at.before at.after at.token
     (subst (BeginsTree greatest_height) at.parts begins))
 
+-- a tree begins with all of its tokens, also with those up to the refused place
 pub not_both : (stream : Stream) (tree : Tree) (why : Refusal) (pos : Pos)
     → SpelledBy stream tree → RefusedAt stream why pos → ⊥
 not_both stream tree why pos is (inl at) = none_whole stream why pos at (begins_whole stream tree is)
@@ -117,6 +118,7 @@ at_one_token stream why other_why pos other_pos at at' =
           )
     ]
 
+-- of two places the later one has the earlier one before it, with which some unit begins
 pub one_refusal : (stream : Stream) (why other_why : Refusal) (pos other_pos : Pos)
     → RefusedAt stream why pos → RefusedAt stream other_why other_pos → (why ≡ other_why) × (pos ≡ other_pos)
 one_refusal stream why other_why pos other_pos (inl at) (inl at') =

@@ -30,6 +30,7 @@ use Rattle.c_reading.proofs.TokenTests.{is_mark_is}
 
 -- ---- a token that passes one test fails another
 
+-- a token that passes a test which this mark, or this word, fails is not that one
 pub no_mark : (mark : Punct) (test : Option Body → Bool) (o : Option Body) → test (Some (lexeme.Mark mark)) ≡ false
     → test o ≡ true → is_mark mark o ≡ false
 no_mark mark test o fails passes = by (is_mark mark o) refl
@@ -75,6 +76,7 @@ or_first : (a b : Bool) → a ≡ true → (a || b) ≡ true
 or_first true b h = refl
 or_first false b h = absurd (cc)
 
+-- the first token of what is well-formed passes the test by which it is looked for
 pub initializer_begins : (one : Initializer) (scope : Scope) (tokens rest : List Token) → IsInitializer one scope
     → Takes tokens (spell_initializer one) rest → begins_initializer scope (next_body tokens) ≡ true
 initializer_begins (unit.Single e) scope tokens rest is all =

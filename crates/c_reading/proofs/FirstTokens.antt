@@ -31,11 +31,13 @@ pub first_seen : (begins : Bool) (scope : Scope) (tokens rest : List Token) (all
 first_seen begins scope tokens rest [] is all = absurd is
 first_seen begins scope tokens rest (s ∷ more) is all = ap (begins_type scope) (front tokens rest (s ∷ more) all).0 ∙ is
 
+-- and there are fewer tokens behind it
 pub first_shorter : (begins : Bool) (scope : Scope) (tokens rest : List Token) (all : List Spelled)
     → IsFirst begins scope all → Takes tokens all rest → length rest < length tokens
 first_shorter begins scope tokens rest [] is all = absurd is
 first_shorter begins scope tokens rest (s ∷ more) is all = (front tokens rest (s ∷ more) all).3
 
+-- the first token of an expression begins no declaration, and begins an expression
 pub begins_no_type : (e : Expr) (scope : Scope) (level : ℕ) (tokens rest : List Token) → IsExpr e scope level
     → Takes tokens (spell e) rest → begins_type scope (next_body tokens) ≡ false
 begins_no_type e scope level tokens rest is all =

@@ -36,6 +36,7 @@ comparison_within c.GreaterEqual = (omega arith, omega arith)
 comparison_within c.Equal = (omega arith, omega arith)
 comparison_within c.NotEqual = (omega arith, omega arith)
 
+-- no operator between operands binds more tightly than `*`, `/` and `%`
 pub infix_low : (operator : Infix) → infix_level operator ≤ 12
 infix_low (between.Arithmetic operator) = (arithmetic_within operator).1
 infix_low (between.Comparison operator) = (comparison_within operator).1
@@ -45,6 +46,7 @@ infix_low between.Assign = omega arith
 infix_low (between.AssignOp operator) = omega arith
 infix_low between.Comma = omega arith
 
+-- its operands bind at least as tightly as it does, and no tighter than a unary expression
 pub infix_below_left : (operator : Infix) → infix_level operator ≤ left_level operator
 infix_below_left (between.Arithmetic operator) = omega arith
 infix_below_left (between.Comparison operator) = omega arith
@@ -103,6 +105,7 @@ follows between.Comma next low = let h = infix_below_left next in omega arith
 
 -- ---- expressions
 
+-- an expression of a level is one of each lower level
 pub is_down : (e : Expr) (scope : Scope) (level higher : ℕ) → level ≤ higher → IsExpr e scope higher
     → IsExpr e scope level
 is_down (tree.Const pos constant) scope level higher low is = is
@@ -119,6 +122,7 @@ is_down (tree.Cast pos type operand) scope level higher low is = (omega (arith, 
 is_down (tree.InfixOp pos operator left right) scope level higher low is = (omega (arith, is.0), is.1, is.2)
 is_down (tree.Cond pos test then else) scope level higher low is = (omega (arith, is.0), is.1, is.2, is.3)
 
+-- it is at no higher level than its own
 pub own_above : (e : Expr) (scope : Scope) (level : ℕ) → level ≤ unary → IsExpr e scope level → level ≤ own_level e
 own_above (tree.Const pos constant) scope level low is = omega arith
 own_above (tree.Id pos x) scope level low is = omega arith

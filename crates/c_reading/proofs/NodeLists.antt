@@ -47,6 +47,7 @@ block_made : (all : BlockItems) → block_items (block_parts all) ≡ all
 block_made unit.NoBlockItem = refl
 block_made (unit.MoreBlockItems first rest) = ap (unit.MoreBlockItems first) (block_made rest)
 
+-- the items of a block are such a list; the other three likewise
 pub block_list : NodeList IsBlockItem block_item_height spell_block_item block_item_adds AreBlockItems
     block_items_height spell_block_items block_items
 block_list = record {
@@ -91,7 +92,8 @@ member_made : (all : Members) → members (member_parts all) ≡ all
 member_made tree.NoMember = refl
 member_made (tree.MoreMembers first rest) = ap (tree.MoreMembers first) (member_made rest)
 
-pub member_list : NodeList IsMember member_height spell_member member_adds AreMembers members_height spell_members members
+pub member_list : NodeList IsMember member_height spell_member member_adds AreMembers members_height spell_members
+    members
 member_list = record {
   parts = member_parts;
   made = member_made;

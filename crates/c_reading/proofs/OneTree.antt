@@ -33,6 +33,7 @@ ends level = record { no_literal = no_literal; no_postfix = λ k low left. refl;
 same_found : {A : Type 0} (g : Outcome A) (a b : A) (rest : List Token) → g ≡ Found a rest → g ≡ Found b rest → a ≡ b
 same_found g a b rest one two = cc
 
+-- both are what the tokens are read as, with nothing behind them, at a height that suffices for both
 pub one_expr : (scope : Scope) (a b : Expr) (tokens : List Token) → IsExpr a scope expression
     → IsExpr b scope expression → Match tokens (spell a) → Match tokens (spell b) → a ≡ b
 one_expr scope a b tokens one two spelled also =

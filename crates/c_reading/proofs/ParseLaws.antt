@@ -40,6 +40,7 @@ spelled_by stream all rest h =
 found_stopped : {A : Type 0} (a : A) (why : Why) (rest more : List Token) → Found a rest ≡ Stopped why more → ⊥
 found_stopped a why rest more h = cc
 
+-- where reading stops, the tokens spell no unit
 pub none_spelled : (tokens rest : List Token) (why : Why) (tree : Tree) → externals 254 tokens ≡ Stopped why rest
     → IsWellFormed tree → Match tokens (spell_tree tree) → ⊥
 none_spelled tokens rest why tree h fits matches =

@@ -15,6 +15,7 @@ use Rattle.c_reading.proofs.ParseLaws.{spelled_by, none_spelled, not_begun, neve
 use Rattle.c_reading.proofs.Viable.Law.{Holds}
 use Rattle.c_reading.proofs.Viable.Unit.{externals_viable}
 
+-- where reading stops as unfit, the unit is refused for its syntax, and else as too deep
 abbrev pub reason_of : Why → Refusal
 reason_of Unfit = Syntax
 reason_of TooDeep = Deep
@@ -57,6 +58,7 @@ at_end stream Unfit h x = inr (record {
   reason = refl;
 })
 
+-- a unit is refused where its reading stops
 pub refused_at : (stream : Stream) (why : Why) (rest : List Token) → externals 254 stream.tokens ≡ Stopped why rest
     → RefusedAt stream (reason_of why) (stopped_at stream rest)
 refused_at stream why [] h = at_end stream why h (externals_viable 254 stream.tokens [] why h)
@@ -68,6 +70,7 @@ answered : (stream : Stream) (got : Outcome (List External)) → externals 254 s
 answered stream (Found all rest) h = inl (record { externals = all; end = stream.end }, spelled_by stream all rest h)
 answered stream (Stopped why rest) h = inr (reason_of why, stopped_at stream rest, refused_at stream why rest h)
 
+-- the reading finds a tree or stops
 pub each_answered : (stream : Stream) → ((tree : Tree) × SpelledBy stream tree)
     ⊎ ((why : Refusal) × (pos : Pos) × RefusedAt stream why pos)
 each_answered stream = answered stream (externals 254 stream.tokens) refl

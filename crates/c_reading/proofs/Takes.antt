@@ -11,6 +11,7 @@ Takes [] (spelled ∷ more) rest = ⊥
 Takes (token ∷ tokens) (spelled ∷ more) rest = (token.body ≡ spelled.body) × StandsAt spelled.place token.pos
     × Takes tokens more rest
 
+-- one spelling behind another, joined and split again
 pub takes_append : (tokens mid rest : List Token) (first second : List Spelled) → Takes tokens first mid
     → Takes mid second rest → Takes tokens (first ++ second) rest
 takes_append tokens mid rest [] second one two = subst (λ ts. Takes ts second rest) (sym one) two
@@ -38,6 +39,7 @@ takes_match (t ∷ tokens) [] all = absurd (cc)
 takes_match [] (s ∷ more) all = absurd all
 takes_match (t ∷ tokens) (s ∷ more) all = (all.0, all.1, takes_match tokens more all.2)
 
+-- and the other way
 pub match_takes : (tokens : List Token) (spelled : List Spelled) → Match tokens spelled → Takes tokens spelled []
 match_takes [] [] all = refl
 match_takes (t ∷ tokens) [] all = absurd all

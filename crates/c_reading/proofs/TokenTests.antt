@@ -14,6 +14,7 @@ use Rattle.c_syntax.specs.Operators.{prefix_token, infix_token, storage_word, qu
 use Rattle.c_reading.specs.ReadToken.{is_mark, is_word, is_literal, name_of, prefix_of, infix_of, storage_of}
 use Rattle.c_reading.specs.ReadToken.{qualifier_of, basic_of}
 
+-- the table of marks has each under its text, so no two have one text
 pub mark_again : (mark : Punct) → lookup marks (mark_text mark) ≡ Some mark
 mark_again p.OpenBracket = refl
 mark_again p.CloseBracket = refl
@@ -65,6 +66,7 @@ mark_again p.Comma = refl
 pub one_mark : (one other : Punct) → mark_text one ≡ mark_text other → one ≡ other
 one_mark one other same = cc (mark_again one, mark_again other, ap (lookup marks) same)
 
+-- a token that passes the test of a mark, of a word or of a literal is that one
 pub is_mark_is : (mark : Punct) (o : Option Body) → is_mark mark o ≡ true → o ≡ Some (lexeme.Mark mark)
 is_mark_is mark (Some (lexeme.Mark next)) h =
     ap (λ m. Some (lexeme.Mark m)) (one_mark next mark ((bytes_eq-Decides (mark_text next) (mark_text mark)).0 h))
@@ -127,10 +129,12 @@ abbrev pub IsToken : {A : Type 0} → (A → Body) → Option Body → Option A 
 IsToken token o None = Unit {0}
 IsToken token o (Some a) = o ≡ Some (token a)
 
+-- what a test of this kind found is what the token is the token of
 pub token_is : {A : Type 0} (token : A → Body) (o : Option Body) (found : Option A) (a : A) → IsToken token o found
     → found ≡ Some a → o ≡ Some (token a)
 token_is token o found a is same = subst (IsToken token o) same is
 
+-- the tests of names, operators and words of specifiers are of this kind
 pub name_is : (o : Option Body) → IsToken lexeme.Name o (name_of o)
 name_is (Some (lexeme.Name x)) = refl
 name_is _ = tt

@@ -26,6 +26,7 @@ more_some : (front : List Spelled) (first : Spelled) (more : List Spelled) → f
 more_some [] first more e = cc (e)
 more_some (other ∷ front) first more e = cc (e)
 
+-- by class; a declarator needs a token beside an omitted identifier
 pub some_declarator : (declarator : Declarator) → HasToken declarator → spell_declarator declarator ≡ [] → ⊥
 some_declarator Omitted has e = has
 some_declarator (Name pos x) has e = cc (e)

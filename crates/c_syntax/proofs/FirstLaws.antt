@@ -53,6 +53,7 @@ first_measure : (operator : Measure) → is_specifier_word (measure_word operato
 first_measure measure.SizeType = refl
 first_measure measure.AlignType = refl
 
+-- no expression begins with a typedef name or a word of a declaration specifier
 pub first_expr : (expr : Expr) (scope : Scope) (level : ℕ) → IsExpr expr scope level → IsFirst false scope (spell expr)
 first_expr (tree.Const pos (constant.Number number)) scope level is = refl
 first_expr (tree.Const pos (constant.Character value wide)) scope level is = refl
@@ -105,10 +106,12 @@ first_specifier (tree.EnumTag pos tag) scope is = refl
 first_specifier (tree.Enum pos tag enumerators comma) scope is = refl
 first_specifier (tree.TypedefName pos x) scope is = is
 
+-- one type at least is among the specifiers (6.7.2p2), so there is one
 pub some_type : SpecifyOneType tree.NoSpecifier → ⊥
 some_type (inl one) = omega (arith, one.0)
 some_type (inr one) = omega (arith, one.1)
 
+-- specifiers, and what begins with them, always do
 pub first_specifiers : (specifiers : Specifiers) (scope : Scope)
     → SpecifyOneType specifiers → AreSpecifiers specifiers scope → IsFirst true scope (spell_specifiers specifiers)
 first_specifiers tree.NoSpecifier scope one are = absurd (some_type one)

@@ -31,6 +31,7 @@ expr_high (trees.Cond pos test then else) = one_more _
 pub type_name_high : (type : TypeName) → 1 ≤ type_name_height type
 type_name_high (trees.NamedType specifiers declarator) = one_more _
 
+-- an omitted identifier alone has height 0
 pub declarator_high : (declarator : Declarator) → HasToken declarator → 1 ≤ declarator_height declarator
 declarator_high trees.Omitted has = absurd has
 declarator_high (trees.Name pos x) has = one_more _
@@ -61,6 +62,7 @@ external_high (unit.Defines function) = one_more _
 external_high (unit.Declaring declaration) = one_more _
 external_high (unit.Asserting assert) = one_more _
 
+-- one of its external declarations, and itself
 pub tree_high : (tree : Tree) → IsTree tree → 2 ≤ tree_height tree
 tree_high tree is = by tree.externals is.0
   where

@@ -9,6 +9,7 @@ use Rattle.c_syntax.specs.View.{expr_of, exprs_row, exprs, specifier_of, specifi
 use Rattle.c_syntax.specs.View.{declarators_row, declarators, parameter_of, parameters_row, parameters, member_of}
 use Rattle.c_syntax.specs.View.{members_row, members, maybe_of, value_of, enumerator_of, enumerators_row, enumerators}
 
+-- of each kind: the tree of the row is that of the list of its parts
 pub exprs_listed : (count : _) (row : e.Row_of-Expr count)
     → exprs_row row ≡ exprs (map expr_of (e.items-the_row-Expr count row))
 exprs_listed count e.end_of-Expr = refl

@@ -30,6 +30,7 @@ spelled_exprs : (all : List e.Expr) → spelled_arguments (exprs (map expr_of al
 spelled_exprs [] = refl
 spelled_exprs (first ∷ rest) = ap (λ more. spell (expr_of first) ∷ more) (spelled_exprs rest)
 
+-- specifiers and declarators one by one, as a loop meets them
 pub spells_specifiers : (all : List s.Specifier)
     → spell_specifiers (specifiers_of all) ≡ flat_map (λ x. spell_specifier (specifier_of x)) all
 spells_specifiers [] = refl
@@ -61,6 +62,7 @@ arguments_row : e.Expr → (count : _) × e.Row_of-Expr count
 arguments_row (e.Call' _ _ _ _ row) = (_, row)
 arguments_row _ = (_, e.end_of-Expr)
 
+-- of each node with a list: the tree of it, and then its spelling
 pub call_of : (pos : Pos) (function : Box e.Expr Global) (all : Vec e.Expr Global)
     → expr_of (e.Call pos function all) ≡ tree.Call pos (expr_of function.value) (exprs (map expr_of all.items))
 unfolding arguments_row
@@ -82,6 +84,7 @@ measure_row : e.Expr → (count : _) × s.Row_of-Specifier count
 measure_row (e.Measure' _ _ _ _ row _) = (_, row)
 measure_row _ = (_, s.end_of-Specifier)
 
+-- of `sizeof` and `_Alignof` of a type, and of a cast: likewise, through the box of the type name
 pub type_measure : (pos : Pos) (operator : Measure) (type : Box t.TypeName Global)
     → expr_of (e.Measure pos operator type) ≡ tree.MeasureOp pos operator (type_name_of type.value)
 unfolding measure_row

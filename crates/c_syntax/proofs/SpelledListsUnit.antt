@@ -70,6 +70,7 @@ items_of : i.Initializer → (count : _) × i.Row_of-Item count
 items_of (i.Braces' _ _ row _) = (_, row)
 items_of _ = (_, i.end_of-Item)
 
+-- of each node with a list: the tree of it where that is asked for, and its spelling
 pub built_braces : (pos : Pos) (all : Vec m.Item Global) (comma : Bool)
     → initializer_of (i.Braces pos all comma) ≡ Braces pos (items (map item_of all.items)) comma
 unfolding items_of

@@ -45,6 +45,7 @@ use Rattle.c_reading.proofs.Takes.{Takes, takes_parted}
 abbrev pub MayFollow : Statement → List Token → Type 0
 MayFollow one rest = IsClosed one ⊎ (is_word w.Else (next_body rest) ≡ false)
 
+-- likewise of the statement that an item ends with, if it does
 abbrev pub MayFollowItem : BlockItem → List Token → Type 0
 MayFollowItem (unit.Declared declaration) rest = Unit {0}
 MayFollowItem (unit.Asserted assert) rest = Unit {0}
@@ -73,6 +74,7 @@ pub record Closes (mark : Punct) : Type 0 where
   pub begins_none : (scope : Scope) → begins_expr scope (Some (lexeme.Mark mark)) ≡ false
   pub ends : (level : ℕ) (tokens : List Token) → next_body tokens ≡ Some (lexeme.Mark mark) → EndsExpr level tokens
 
+-- what ends the expressions of statements
 pub semicolon : Closes p.Semicolon
 semicolon = record {
   itself = refl;
@@ -87,6 +89,7 @@ paren = record {
   ends = λ level tokens e. ends_closed level tokens p.CloseParen e (λ k low left. refl) refl refl;
 }
 
+-- an expression or none, before its semicolon, is told from a declaration by its first token
 pub optional_no_type : (e : Option Expr) (scope : Scope) (tokens mid : List Token) → IsOptional e scope
     → next_body mid ≡ Some (lexeme.Mark p.Semicolon) → Takes tokens (spell_optional e) mid
     → begins_type scope (next_body tokens) ≡ false
@@ -212,6 +215,7 @@ module _ (k : ℕ) (low : Statements) (full : FullStatements k low) where
 
   -- ---- parts of statements
 
+  -- an expression or none before its mark, and one in parentheses, are read as that
   pub optional_again : (mark : Punct) → Closes mark → (e : Option Expr) (scope : Scope) (tokens mid : List Token)
       → IsOptional e scope → optional_height e ≤ k → next_body mid ≡ Some (lexeme.Mark mark)
       → Takes tokens (spell_optional e) mid

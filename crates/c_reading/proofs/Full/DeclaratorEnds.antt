@@ -26,6 +26,7 @@ neither : (a b : Bool) → (a || b) ≡ false → (a ≡ false) × (b ≡ false)
 neither true b h = absurd (cc)
 neither false b h = (refl, h)
 
+-- what ends a declarator begins none, and no qualifier of a pointer
 pub ends_begins : (rest : List Token) → EndsDeclarator rest → begins_declarator form.Parameter (next_body rest) ≡ false
 ends_begins rest ends = (neither _ _ ends).0
 
@@ -53,6 +54,7 @@ EndsPart rest = EndsDeclarator rest × (ends_specifiers (next_body rest) ≡ tru
 abbrev pub ends_part : Option Body → Type 0
 ends_part o = ((begins_declarator form.Parameter o || is_some (qualifier_of o)) ≡ false) × (ends_specifiers o ≡ true)
 
+-- behind a declarator or parameter a known token, a comma of the list, or an ellipsis ends it
 pub ends_at : (tokens : List Token) (o : Option Body) → next_body tokens ≡ o → ends_part o → EndsPart tokens
 ends_at tokens o e ends = subst ends_part (sym e) ends
 
@@ -71,6 +73,7 @@ ends_ellipsis false tokens rest close all = ends_at tokens _ (ap next_body all �
 
 -- ---- the first token of a declarator
 
+-- the tokens that a declarator begins with
 pub data Opening (one : Declarator) (o : Option Body) : Type 0 where
   Starred : (e : o ≡ Some (lexeme.Mark p.Star)) → Opening one o
   Parenthesised : (e : o ≡ Some (lexeme.Mark p.OpenParen)) → Opening one o
@@ -85,6 +88,7 @@ inside whole part o own first (Parenthesised e) = Parenthesised e
 inside whole part o own first (Bracketed omits e) = Bracketed (own ∙ omits) e
 inside whole part o own first (Named x declares is e) = Named x (own ∙ declares) (first ∙ is) e
 
+-- each declarator that has a token begins with one of them
 pub opening : (one : Declarator) (tokens rest : List Token) → HasToken one
     → Takes tokens (spell_declarator one) rest → Opening one (next_body tokens)
 opening Omitted tokens rest has all = absurd has
@@ -131,6 +135,7 @@ opening_begins form.Abstract scope one o has (Named x declares first e) =
 opening_begins form.Parameter scope one o has (Named x declares first e) =
     begins_at form.Parameter o _ e (refl, refl, refl)
 
+-- and so the token begins a declarator of its form
 pub declarator_begins : (shape : DeclaratorForm) (scope : Scope) (one : Declarator) (tokens rest : List Token)
     → HasToken one → HasForm shape scope one → Takes tokens (spell_declarator one) rest
     → Begins shape (next_body tokens)
@@ -143,6 +148,7 @@ NamesNoType form.Named scope one = ⊥
 NamesNoType form.Abstract scope one = Omits one
 NamesNoType form.Parameter scope one = IsNoType scope (first_name one)
 
+-- so it begins with no name of a type, and no word of one
 pub opening_no_type : (shape : DeclaratorForm) (scope : Scope) (one : Declarator) (o : Option Body)
     → NamesNoType shape scope one → Opening one o → begins_type scope o ≡ false
 opening_no_type shape scope one o none (Starred e) = ap (begins_type scope) e

@@ -58,6 +58,7 @@ comparison_again c.GreaterEqual = refl
 comparison_again c.Equal = refl
 comparison_again c.NotEqual = refl
 
+-- the operator of a token is that which is spelled by it
 pub infix_again : (operator : Infix) → infix_of (Some (lexeme.Mark (infix_token operator))) ≡ Some operator
 infix_again (between.Arithmetic operator) = arithmetic_again operator
 infix_again (between.Comparison operator) = comparison_again operator
@@ -157,6 +158,7 @@ module _ (k : ℕ) (low : Parsers) (left : Expr) where
 
 -- ---- what follows an expression
 
+-- a mark that goes on with no expression
 pub ends_closed : (level : ℕ) (tokens : List Token) (mark : Punct) → next_body tokens ≡ Some (lexeme.Mark mark)
     → ((k : ℕ) (low : Parsers) (left : Expr) → goes_postfix left (Some (lexeme.Mark mark)) ≡ false)
     → infix_of (Some (lexeme.Mark mark)) ≡ None → is_mark p.Question (Some (lexeme.Mark mark)) ≡ false
@@ -170,6 +172,7 @@ ends_closed level tokens mark e no_postfix no_infix no_question = record {
       ∙ ap (λ question. goes_between level left None question) no_question;
 }
 
+-- an operator of a lower level than the expression
 pub ends_infix : (level : ℕ) (tokens : List Token) (operator : Infix)
     → next_body tokens ≡ Some (lexeme.Mark (infix_token operator)) → infix_level operator < level
     → EndsExpr level tokens
@@ -183,6 +186,7 @@ ends_infix level tokens operator e below = record {
       ∙ between_below k low left level operator (is_mark p.Question (Some (lexeme.Mark (infix_token operator)))) below;
 }
 
+-- the question mark of a conditional expression around it
 pub ends_question : (level : ℕ) (tokens : List Token) → next_body tokens ≡ Some (lexeme.Mark p.Question)
     → conditional < level → EndsExpr level tokens
 ends_question level tokens e below = record {
@@ -193,6 +197,7 @@ ends_question level tokens e below = record {
       ∙ between_question k low left level true below;
 }
 
+-- what ends an expression ends one of each higher level
 pub ends_up : (level higher : ℕ) (rest : List Token) → level ≤ higher → EndsExpr level rest → EndsExpr higher rest
 ends_up level higher rest below ends = record {
   no_literal = ends.no_literal;

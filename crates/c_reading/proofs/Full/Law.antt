@@ -51,6 +51,7 @@ IsGrouped (tree.Member pos access whole x) = IsGrouped whole
 IsGrouped (tree.PostfixOp pos operator operand) = IsGrouped operand
 IsGrouped _ = ⊥
 
+-- of each parser of expressions, declarators and specifiers
 pub record AllFull (k : ℕ) (r : Parsers) : Type 0 where
   pub expr : (scope : Scope) (level : ℕ) (e : Expr) (tokens rest : List Token) → level ≤ unary
       → IsExpr e scope level → height e ≤ k → EndsExpr level rest → Takes tokens (spell e) rest

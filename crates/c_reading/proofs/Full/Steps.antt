@@ -32,6 +32,7 @@ Front tokens rest (s ∷ more) =
     (next_body tokens ≡ Some s.body) × StandsAt s.place (place tokens) × Takes (tail tokens) more rest
     × (length rest < length tokens)
 
+-- what a spelling that is not empty tells of the tokens
 pub front : (tokens rest : List Token) (all : List Spelled) → Takes tokens all rest → Front tokens rest all
 front tokens rest [] all = tt
 front [] rest (s ∷ more) all = absurd all
@@ -43,6 +44,7 @@ tail_shorter (t ∷ tokens) b e = omega arith
 
 -- ---- one parser after another
 
+-- where the first of two parsers finds this, the second decides; likewise of each further combinator
 pub then_read : {A B : Type 0} (g : Outcome A) (f : A → Parser B) (a : A) (mid : List Token) (h : Outcome B)
     → g ≡ Found a mid → f a mid ≡ h → and_then g f ≡ h
 then_read g f a mid h e more = ap (λ g. and_then g f) e ∙ more
@@ -107,6 +109,7 @@ module _ {S A : Type 0} (goes : S → Option Body → Bool) (step : S → Parser
       chosen_first (goes s (next_body tokens)) _ _ tokens (Found (a ∷ more) rest) each.1
       (then_read _ _ a each.0 _ each.2 (then_read _ _ more rest _ behind refl))
 
+  -- the parts that are read one by one are read as the list
   pub many_again : (all : List A) (s : S) (tokens rest : List Token) → Each all s tokens rest
       → many goes step next s tokens ≡ Found all rest
   unfolding many
@@ -115,6 +118,7 @@ module _ {S A : Type 0} (goes : S → Option Body → Bool) (step : S → Parser
 -- ---- climb
 
 module _ {A : Type 0} (goes : A → Option Body → Bool) (fits : A → Bool) (wrap : A → Parser A) where
+  -- no node is put around where no operator comes; one more is where it comes
   pub climb_over : (n : ℕ) (left : A) (tokens : List Token) → goes left (next_body tokens) ≡ false
       → climb goes fits wrap n left tokens ≡ Found left tokens
   unfolding climb
@@ -181,6 +185,7 @@ module _ {S A : Type 0} (is_comma : Option Body → Bool) (ends : Option Body
     each_behind more has (next s a) b.0 rest b.5,
   )
 
+  -- the parts of a list with commas that are read one by one are read as the list
   pub listed_again : (first : A) (more : List A) (has : Bool) (s : S) (tokens mid rest : List Token)
       → one s tokens ≡ Found first mid → Behind more has (next s first) mid rest
       → comma_list is_comma ends ending one next s tokens ≡ Found (first ∷ more, has) rest

@@ -5,6 +5,7 @@ use Rattle.c_reading.specs.ReadExpr.{Parsers}
 use Rattle.c_syntax.specs.Scopes.{Scope}
 use Rattle.c_reading.proofs.Grows.Steps.{Grown}
 
+-- of each parser of expressions, declarators and specifiers, for two heights
 pub record AllGrown (r s : Parsers) : Type 0 where
   pub expr : (scope : Scope) (level : ℕ) → Grown (r.expr scope level) (s.expr scope level)
   pub paren_expr : (scope : Scope) → Grown (r.paren_expr scope) (s.paren_expr scope)

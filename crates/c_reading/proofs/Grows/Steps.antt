@@ -10,11 +10,13 @@ use Rattle.c_reading.specs.Parser.{next_body, place, tail, peek, here, skip, cho
 use Rattle.c_reading.specs.Parser.{Listing, goes_listing, behind_comma, next_listing, more_listed, comma_list, ones}
 use Rattle.c_reading.specs.Parser.{has_ending}
 
+-- the second outcome is the first, unless that was too deep
 abbrev pub Refines : {A : Type 0} → Outcome A → Outcome A → Type 0
 Refines (Found a rest) g = Found a rest ≡ g
 Refines (Stopped Unfit rest) g = Stopped Unfit rest ≡ g
 Refines (Stopped TooDeep rest) g = Unit {0}
 
+-- of two parsers, of which the second has more height
 abbrev pub Grows : {A : Type 0} → Parser A → Parser A → Type 0
 Grows p q = (tokens : List Token) → Refines (p tokens) (q tokens)
 
@@ -27,6 +29,7 @@ refines_same (Found a rest) = refl
 refines_same (Stopped Unfit rest) = refl
 refines_same (Stopped TooDeep rest) = tt
 
+-- each step of a parser grows where its parts do, and what was too deep to anything
 pub grown_same : {A : Type 0} (p : Parser A) → Grown p p
 grown_same p = record { grows = λ tokens. refines_same (p tokens) }
 
@@ -94,6 +97,7 @@ module _ {S A : Type 0} (goes : S → Option Body → Bool) (step step' : S → 
       (grown_bind (step s) (step' s) _ _ (each s)
       (λ a. grown_then _ _ (λ more. pure (a ∷ more)) (go_grown n (next s a)))) (grown_same (pure [])))
 
+  -- lists grow where each of their parts does
   pub many_grown : (s : S) → Grown (many goes step next s) (many goes step' next s)
   unfolding many
   many_grown s = record { grows = λ tokens. (go_grown (suc (length tokens)) s).grows tokens }
@@ -128,6 +132,7 @@ module _ {S A : Type 0} (is_comma ends : Option Body → Bool) (ending : Parser 
 
 module _ {A : Type 0} (goes : A → Option Body → Bool) (fits fits' : A → Bool) (wrap wrap' : A → Parser A)
     (more : (a : A) → fits a ≡ true → fits' a ≡ true) (each : (a : A) → Grown (wrap a) (wrap' a)) where
+  -- also by more nodes that may be put around
   pub climb_grown : (n n' : ℕ) (left : A) → n ≤ n'
       → Grown (climb goes fits wrap n left) (climb goes fits' wrap' n' left)
   unfolding climb

@@ -5,6 +5,7 @@ use Rattle.c_reading.specs.ReadExpr.{Parsers}
 use Rattle.c_syntax.specs.Scopes.{Scope}
 use Rattle.c_reading.proofs.Online.Steps.{Online}
 
+-- of each parser of expressions, declarators and specifiers
 pub record AllOnline (r : Parsers) : Type 0 where
   pub expr : (scope : Scope) (level : ℕ) → Online (r.expr scope level)
   pub paren_expr : (scope : Scope) → Online (r.paren_expr scope)

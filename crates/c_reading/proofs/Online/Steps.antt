@@ -12,6 +12,7 @@ use Rattle.c_reading.specs.Parser.{Listing, goes_listing, behind_comma, next_lis
 use Rattle.c_reading.specs.Parser.{has_ending}
 use Rattle.c_reading.proofs.Sound.Steps.{moved, bind_found, chosen}
 
+-- the token that stands next
 abbrev pub head : List Token → Option Token
 head [] = None
 head (token ∷ tokens) = Some token
@@ -21,15 +22,18 @@ abbrev pub moved_to : {A : Type 0} → Outcome A → List Token → Outcome A
 moved_to (Found a rest) other = Found a other
 moved_to (Stopped why rest) other = Stopped why other
 
+-- the tokens from which on a parser has read nothing
 abbrev pub rest_of : {A : Type 0} → Outcome A → List Token
 rest_of (Found a rest) = rest
 rest_of (Stopped why rest) = rest
 
+-- what was read decides, with the next token: with others behind that begin alike, the outcome is the same
 pub record Local {A : Type 0} (p : Parser A) (tokens : List Token) (g : Outcome A) : Type 0 where
   pub before : List Token
   pub parts : tokens ≡ before ++ rest_of g
   pub same : (other : List Token) → head other ≡ head (rest_of g) → p (before ++ other) ≡ moved_to g other
 
+-- the parser is local to what it read and the next token, on all tokens
 abbrev pub Online : {A : Type 0} → Parser A → Type 0
 Online p = (tokens : List Token) → Local p tokens (p tokens)
 
@@ -43,6 +47,7 @@ no_parts : (before rest : List Token) → [] ≡ before ++ rest → (before ≡ 
 no_parts [] rest h = (refl, h)
 no_parts (token ∷ before) rest h = absurd (cc (h))
 
+-- each step of a parser is online, where its parts are
 pub online_pure : {A : Type 0} (a : A) → Online (pure a)
 online_pure a tokens = record { before = []; parts = refl; same = λ other h. refl }
 
@@ -144,6 +149,7 @@ abbrev pub TakesOne : {A : Type 0} → Parser A → Type 0
 TakesOne {A} p = (token : Token) (tokens rest : List Token) (a : A) → p (token ∷ tokens) ≡ Found a rest
     → length rest ≤ length tokens
 
+-- what an online parser finds has no more tokens behind it than before
 pub no_longer : {A : Type 0} (p : Parser A) → Online p → (tokens rest : List Token) (a : A)
     → p tokens ≡ Found a rest → length rest ≤ length tokens
 no_longer p on tokens rest a h =
@@ -152,6 +158,7 @@ no_longer p on tokens rest a h =
     let l : length (rest_of (p tokens)) ≡ length rest = ap (λ g. length (rest_of g)) h in
     omega (arith, length-append x.before (rest_of (p tokens)))
 
+-- each step that skips a token, or has a part that finds one, does
 pub takes_fail : {A : Type 0} (why : Why) → TakesOne (fail {A = A} why)
 takes_fail why token tokens rest a h = absurd (cc)
 
@@ -238,6 +245,7 @@ module _ {S A : Type 0} (goes : S → Option Body → Bool) (step : S → Parser
       unfolding many
       many_is n s tokens low = go_same (suc (length tokens)) n s tokens (omega arith) low
 
+      -- and so a list is online, where each of its parts is and has a token
       pub many_online : (s : S) → Online (many goes step next s)
       many_online s tokens =
           let at = λ (n : ℕ) (low : length tokens < n). subst (Local (go goes step next n s) tokens)
@@ -297,6 +305,7 @@ module _ {S A : Type 0} (is_comma ends : Option Body → Bool) (ending : Parser 
       online_choose (ends o) _ _ (online_bind ending _ ending_on (λ _. online_pure None))
       (online_bind (one l.state) _ (on l.state) (λ a. online_pure (Some a)))
 
+  -- lists with commas: what stands behind a comma, and all of them
   pub behind_online : (l : Listing S) → Online (behind_comma is_comma ends ending one next l)
   unfolding behind_comma
   behind_online l = online_skip _ (online_peek _ (one_more_online l))
@@ -331,6 +340,7 @@ module _ {S A : Type 0} (is_comma ends : Option Body → Bool) (ending : Parser 
 
 module _ {A : Type 0} (goes : A → Option Body → Bool) (fits : A → Bool) (wrap : A → Parser A) (on : (a : A)
     → Online (wrap a)) where
+  -- by the number of nodes that may still be put around
   pub climb_online : (n : ℕ) (left : A) → Online (climb goes fits wrap n left)
   unfolding climb
   climb_online zero left = online_peek _ (λ o. online_choose (goes left o) _ _ (online_fail TooDeep) (online_pure left))

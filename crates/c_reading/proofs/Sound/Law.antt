@@ -20,12 +20,14 @@ use Rattle.c_syntax.specs.WellFormed.{AreSpecifiers, IsDeclarator, IsParameter, 
 use Rattle.c_reading.proofs.Sound.Steps.{Spelt}
 use Rattle.c_reading.proofs.Takes.{Takes}
 
+-- what was found is spelled by the tokens that were read, well-formed, and of this height at most
 pub record Read {A : Type 0} (Fits : A → Type 0) (tall : A → ℕ) (spelled : A
     → List Spelled) (most : ℕ) (tokens : List Token) (a : A) (rest : List Token) : Type 0 where
   pub spells : Takes tokens (spelled a) rest
   pub fits : Fits a
   pub within : tall a ≤ most
 
+-- the first of these alone
 pub spelt : {A : Type 0} {Fits : A → Type 0} {tall : A → ℕ} {spelled : A
     → List Spelled} {most : ℕ} {tokens rest : List Token} {a : A} → Read Fits tall spelled most tokens a rest
     → Spelt tokens (spelled a) rest
@@ -51,6 +53,7 @@ HasForm form.Named scope one = DeclaresName one
 HasForm form.Abstract scope one = Omits one
 HasForm form.Parameter scope one = TakesTypes scope one
 
+-- of each parser of expressions, declarators and specifiers
 pub record AllSound (k : ℕ) (r : Parsers) : Type 0 where
   pub expr : (scope : Scope) (level : ℕ) → level ≤ unary
       → Sound (λ e. IsExpr e scope level) height spell k (r.expr scope level)

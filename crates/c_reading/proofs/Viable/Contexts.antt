@@ -36,6 +36,7 @@ pub record Reached {A B : Type 0} (g : Outcome A) (f : A → Parser B) (why : Wh
   pub one : g ≡ Found value mid
   pub two : f value mid ≡ Stopped why rest
 
+-- two parsers one behind the other: the first stopped, or it found something and the second did
 pub bind_stopped : {A B : Type 0} (g : Outcome A) (f : A → Parser B) (why : Why) (rest : List Token)
     → and_then g f ≡ Stopped why rest → (g ≡ Stopped why rest) ⊎ Reached g f why rest
 bind_stopped (Found a mid) f why rest h = inr (record { value = a; mid = mid; one = refl; two = h })
@@ -47,6 +48,7 @@ pub given_stopped : {A B : Type 0} (g : Outcome A) (f : A → B) (why : Why) (re
 given_stopped (Found a mid) f why rest h = absurd (cc (h))
 given_stopped (Stopped other_why r) f why rest h = cc (h)
 
+-- a mark or word that had to come stops before another token
 pub expect_stopped : (test : Option Body → Bool) (P : Why → List Token
     → Type 0) (tokens : List Token) (why : Why) (rest : List Token) → expect test tokens ≡ Stopped why rest
     → P Unfit tokens → P why rest
@@ -76,6 +78,7 @@ pub close_stopped : {B : Type 0} (m : Punct) (b : B) (P : Why → List Token
 close_stopped m b P tokens why rest h unfit =
     expect_stopped (is_mark m) P tokens why rest (given_stopped (expect (is_mark m) tokens) (λ _. b) why rest h) unfit
 
+-- no height was left, or there was some and the parser stopped
 pub deeper_stopped : {A : Type 0} (P : Why → List Token → Type 0) (k : ℕ) (r : Parser A) (tokens : List Token)
     (why : Why) (rest : List Token) → deeper k r tokens ≡ Stopped why rest
     → P TooDeep tokens
@@ -84,6 +87,7 @@ pub deeper_stopped : {A : Type 0} (P : Why → List Token → Type 0) (k : ℕ) 
 deeper_stopped P zero r tokens why rest h deep next = stopped P h deep
 deeper_stopped P (suc k) r tokens why rest h deep next = next (omega arith) h
 
+-- no expression begins, there is no height for it, or it stopped
 pub expr_lower_stopped : (P : Why → List Token → Type 0) (scope : Scope) (k : ℕ) (r : Parser Expr)
     (tokens : List Token) (why : Why) (rest : List Token) → expr_lower scope k r tokens ≡ Stopped why rest
     → P Unfit tokens
@@ -122,6 +126,7 @@ module _ {S A : Type 0} (goes : S → Option Body → Bool) (step : S → Parser
         | inr y ↦ absurd (cc (y.1))
       ]
 
+  -- so where one of a list stops
   pub many_stopped : (s : S) (tokens rest : List Token) (why : Why)
       → many goes step next s tokens ≡ Stopped why rest → P s tokens why rest
   unfolding many
@@ -224,6 +229,7 @@ climb_stopped goes fits wrap P Q turn fails deep (suc n) left tokens rest why ho
 
 -- ---- tokens that a spelling is matched by
 
+-- one spelling behind another
 pub match_append : (tokens more : List Token) (front behind : List Spelled) → Match tokens front → Match more behind
     → Match (tokens ++ more) (front ++ behind)
 match_append [] more [] behind one two = two
@@ -260,6 +266,7 @@ pub record Completed {A : Type 0} (Fits : A → Type 0) (tall : A → ℕ) (spel
   pub parts : spelled node ≡ front ++ more
 
 module _ {A : Type 0} {Fits : A → Type 0} {tall : A → ℕ} {spelled : A → List Spelled} where
+  -- what begins a node of a height begins one of more
   pub begins_higher : (low high : ℕ) (tokens : List Token) → low ≤ high → Begins Fits tall spelled low tokens
       → Begins Fits tall spelled high tokens
   begins_higher low high tokens le b =

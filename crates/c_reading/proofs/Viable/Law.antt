@@ -1,6 +1,5 @@
 -- What it says of parsers that where they stop, some tree of the class begins with what was read; where that was too
--- deep,
--- a higher tree begins with the next token too.
+-- deep, a higher tree begins with the next token too.
 use Rattle.std.proofs.Common.{◌≡◌, ℕ, ◌<◌, ◌≤◌, List, [], ◌∷◌, ◌++◌, true}
 use Rattle.c_lexer.specs.declared.punct.Punct.TheVariants as p
 use Rattle.c_lexer.specs.declared.token.Token.{Token}
@@ -17,6 +16,7 @@ use Rattle.c_syntax.specs.Spelling.{spell_declarator}
 use Rattle.c_syntax.specs.WellFormed.{IsDeclarator}
 use Rattle.c_reading.proofs.Sound.Law.{HasForm}
 
+-- what stands before the rest begins a node of the height; with the next token, where it was too deep, a higher one
 pub record Holds (B : ℕ → List Token → Type 0) (most : ℕ) (tokens : List Token) (why : Why) (rest : List Token)
     : Type 0 where
   pub before : List Token
@@ -31,12 +31,12 @@ BeginsForm shape scope =
     Begins (λ one. IsDeclarator one scope × HasForm shape scope one) declarator_height spell_declarator
 
 -- Nothing was read, and if that was too deep, the next token begins an expression: behind `sizeof` and a parenthesis,
--- where
--- the height suffices for a type name alone.
+-- where the height suffices for a type name alone.
 pub record AtOnce (scope : Scope) (tokens : List Token) (why : Why) (rest : List Token) : Type 0 where
   pub at_once : tokens ≡ rest
   pub starts : why ≡ TooDeep → begins_expr scope (next_body tokens) ≡ true
 
+-- of each parser of expressions, declarators and specifiers
 pub record AllViable (k : ℕ) (r : Parsers) : Type 0 where
   pub expr : (scope : Scope) (level : ℕ) (tokens rest : List Token) (why : Why) → level ≤ unary → 0 < k
       → r.expr scope level tokens ≡ Stopped why rest → Holds (BeginsExpr scope level) k tokens why rest

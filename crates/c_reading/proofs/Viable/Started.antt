@@ -40,9 +40,11 @@ use Rattle.c_reading.proofs.TokenTests.{is_mark_is, is_word_is, token_is, prefix
 
 -- ---- the least nodes
 
+-- any place: that of a node that is only said to be there
 abbrev pub origin : Pos
 origin = record { line = 1; column = 1 }
 
+-- a constant; then `int` as specifiers and as a type name, and a tag
 abbrev pub least_expr : Expr
 least_expr = tree.Const origin (constant.Character (nonnegative 0) false)
 
@@ -99,6 +101,7 @@ module _ (scope : Scope) (level : ℕ) (low : level ≤ unary) (pos : Pos) where
       → spell e ≡ token_at pos next ∷ more → Begins (Some next)
   expr_whole next e more fits same = whole_begins (token_at pos next) e more refl fits same
 
+  -- by the operator, and then by any token that the test lets pass
   pub prefix_begun : (operator : Prefix) → Begins (Some (prefix_token operator))
   prefix_begun operator =
       expr_whole (prefix_token operator) (tree.PrefixOp pos operator least_expr) (spell least_expr) (low, tt) refl
@@ -136,6 +139,7 @@ module _ (scope : Scope) (level : ℕ) (low : level ≤ unary) (pos : Pos) where
 
 -- ---- a token that begins specifiers
 
+-- some specifiers begin with the token
 abbrev pub TypeBegun : Scope → Pos → Option Body → Type 0
 TypeBegun scope = Begun (λ all. SpecifyOneType all × AreSpecifiers all scope) specifiers_height spell_specifiers
 
@@ -194,6 +198,7 @@ module _ (scope : Scope) (pos : Pos) where
       (inr (refl, refl)) (tt, tt) refl
   specifier_word_begins _ h = absurd (cc (h))
 
+  -- each token that the test lets pass begins some
   pub type_begun : (o : Option Body) → begins_type scope o ≡ true → TypeBegins o
   type_begun (Some (lexeme.Word word)) h = specifier_word_begins word h
   type_begun (Some (lexeme.Name x)) h =

@@ -24,6 +24,7 @@ use Rattle.c_syntax.specs.WellFormedUnit.{IsOptional, IsForInit, IsClosed, IsSta
 use Rattle.c_reading.proofs.Viable.Contexts.{Completed, Context}
 use Rattle.c_reading.proofs.Viable.Started.{least_expr}
 
+-- the statement that completes what wants one
 abbrev pub empty : Statement
 empty = unit.ExprStmt None
 
@@ -64,12 +65,14 @@ body_parts a b c d x y = simp (append_assoc, append-nil)
 
 -- ---- an expression or none and a mark, and an expression in parentheses
 
+-- an expression or none, up to its mark
 abbrev pub spell_up_to : Punct → Option Expr → List Spelled
 spell_up_to m e = spell_optional e ++ mark m ∷ []
 
 abbrev InOptional : Punct → Scope → List Spelled → ℕ → Type 0
 InOptional m scope front least = InStatement (λ e. IsOptional e scope) optional_height (spell_up_to m) scope least front
 
+-- each statement around a part that stops: what completes it, by the part
 pub expression_statement : (scope : Scope) → InOptional p.Semicolon scope [] 0
 expression_statement scope = record {
   make = λ e. unit.ExprStmt e;
@@ -123,7 +126,8 @@ switch_test scope pos =
       within =
           λ e j others low. omega arith;
       spells =
-          λ e. append_assoc (word_at pos w.Switch ∷ spell_controlling e) (mark p.OpenBrace ∷ []) (mark p.CloseBrace ∷ []);
+          λ e. append_assoc (word_at pos w.Switch ∷ spell_controlling e) (mark p.OpenBrace ∷ [])
+          (mark p.CloseBrace ∷ []);
     }
 
 pub while_test : (scope : Scope) (pos : Pos) → InTest scope (word_at pos w.While ∷ []) 1

@@ -1,10 +1,12 @@
 -- Each call ends by what is left of the height, and within one height by who calls whom.
 --
--- What decreases is 64 * (height left) + rank. A call with one height less takes 64 off; at one height a function has a
--- higher rank than each that it calls: 40 an item of a switch, 30 an item of a block, 20 a statement, 9 and 10 behind
--- the
--- word of a statement, 1 to 3 blocks. `statement`, `block_item` and `switch_item` have rank 0 and go to one height
--- less.
+-- What decreases is 64 * (height left) + rank. A call with one height less takes 64 off, whatever its rank; at one
+-- height a function has a higher rank than each that it calls:
+--   40       switch_item_at      30  block_item_at      20  statement_at
+--   10       the statements behind their words: if_on, switch_on, while_on, do_on, for_on;  9  for_begun, within for_on
+--   3, 2, 1  compound; the braces: block, switch_block; the items between them: block_run, switch_run
+-- `statement`, `block_item` and `switch_item` have rank 0: at height h they go to a function at h - 1. A loop over
+-- items decreases by the tokens left.
 use Rattle.std.proofs.Common.{◌≡◌, length, map, take, ◌+◌, ◌*◌, ◌≤◌, ◌++◌}
 use Rattle.c_reading.specs.Parser.{and_then, pure}
 use Rattle.c_reading.specs.ReadBody.{block_run, switch_run, statements}

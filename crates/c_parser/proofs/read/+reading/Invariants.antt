@@ -1,8 +1,7 @@
 -- Each call ends by what is left of the height, and within one height by who calls whom.
 --
 -- What decreases is 64 * (height left) + rank. A call with one height less takes 64 off, whatever its rank; at one
--- height
--- a function has a higher rank than each that it calls:
+-- height a function has a higher rank than each that it calls:
 --   60        the whole of a class: expr_at, type_name_at, declarator_at, parameter_at, member_at, specifier_at
 --   48 to 50  declarators by their first token; 30 to 50 structures, unions and enumerations, from the word inwards
 --   37 to 40  what follows the identifier of a declarator

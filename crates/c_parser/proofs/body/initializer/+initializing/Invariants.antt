@@ -1,8 +1,10 @@
 -- Each call ends by what is left of the height, and within one height by who calls whom.
 --
--- What decreases is 64 * (height left) + rank; at one height a function has a higher rank than each that it calls: 3 an
--- initializer or an item, 2 braces, 1 what stands in them. `initializer` and `item` have rank 0, and go to one height
--- less.
+-- What decreases is 64 * (height left) + rank. A call with one height less takes 64 off, whatever its rank; at one
+-- height a function has a higher rank than each that it calls:
+--   3  initializer_at, item_at      2  braces      1  what stands in them: listed_items, member_item, index_item
+-- `initializer` and `item` have rank 0: at height h they go to a function at h - 1. The loop over items decreases by
+-- the tokens left.
 use Rattle.std.proofs.Common.{◌≡◌, List, Bool, length, map, ◌+◌, ◌*◌, ◌++◌}
 use Rattle.c_reading.specs.Parser.{and_then, pure}
 use Rattle.c_reading.specs.ReadBody.{initializers, listed_items}
