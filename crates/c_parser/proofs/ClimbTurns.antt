@@ -12,8 +12,7 @@ use Rattle.c_parser.proofs.Refused.{refused}
 use Rattle.c_parser.proofs.Turns.{climb_deep, climb_refused, climb_turn}
 
 -- The loop has come to this node, of this height, in this scope before these tokens. Some number of turns more gives
--- the
--- whole: as many as the height that is left.
+-- the whole: as many as the height that is left.
 pub record Climbing {A : Type 0} (k : ℕ) (goes : A → Option Body → Bool) (high : A → ℕ) (adds : A
     → Scope) (wrap : Scope → A → Parser A)
     (starts : Scope → Type 0) (whole : Scope → Outcome A) (left : A) (height : ℕ) (behind : Scope)

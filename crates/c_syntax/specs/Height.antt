@@ -1,6 +1,5 @@
 -- The height of a node: 1 without parts, else one more than the highest of its parts. Lists, the words of specifiers
--- and
--- an omitted identifier are no nodes.
+-- and an omitted identifier are no nodes.
 use Rattle.std.specs.Prelude.{ℕ, suc, max}
 use Rattle.c_syntax.specs.Tree as tree
 use Rattle.c_syntax.specs.Tree.{Expr, Exprs, Maybe, TypeName, Specifier, Specifiers, MemberDeclaration, Members}

@@ -174,8 +174,7 @@ module _ {A L : Type 0} {Fits : A → Scope → Type 0} {tall : A → ℕ} {spel
         (subst (λ spelled. Takes tokens spelled rest) (list.more_spelled first more) all) in
         let starts = item_starts.starts first scope tokens x.mid fit.0 x.one in
         let follows = item_starts.follows first x.mid
-        (items_no_else more (scope ++ adds first) x.mid rest fit.1 close x.two) in
-        (
+        (items_no_else more (scope ++ adds first) x.mid rest fit.1 close x.two) in (
           x.mid,
           item_goes scope (begins scope) (next_body tokens) (item_starts.starts_none scope)
               (item_starts.starts_brace scope) starts,

@@ -1,6 +1,5 @@
 -- The spelling of a well-formed declarator, parameter, member, type name or of specifiers is read as it; and all
--- parsers of
--- every height are full.
+-- parsers of every height are full.
 use Rattle.std.proofs.Common.{◌≡◌, ℕ, zero, suc, ◌≤◌, true, false, List, [], ◌∷◌, ◌++◌, Option, Some, refl, sym, ◌∙◌}
 use Rattle.std.proofs.Common.{ap, subst, arith}
 use Rattle.c_lexer.specs.declared.punct.Punct.TheVariants as p

@@ -1,6 +1,5 @@
 -- Operators between operands and the conditional are read again: the climb from the leftmost operand comes by each
--- expression
--- on the left.
+-- expression on the left.
 use Rattle.std.proofs.Common.{◌≡◌, ◌≤◌, ◌<◌, ◌+◌, ◌-◌, ℕ, suc, nat_le, Bool, true, false, ◌&&◌, List, ◌∷◌, ◌++◌, Some}
 use Rattle.std.proofs.Common.{refl, ◌∙◌, ap, arith}
 use borrow.Author.Tests.{le-leb}

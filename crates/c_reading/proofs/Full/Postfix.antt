@@ -1,6 +1,5 @@
 -- Primary expressions and postfix operators are read again: the climb from the first operand comes by each operand on
--- the
--- left.
+-- the left.
 use Rattle.std.proofs.Common.{◌≡◌, ◌≤◌, ◌<◌, ◌+◌, ◌-◌, ℕ, suc, nat_le, ℤ, Bool, true, false, List, [], ◌∷◌, ◌++◌, map}
 use Rattle.std.proofs.Common.{Option, Some, inl, inr, refl, sym, ◌∙◌, ap, subst, arith}
 use borrow.Author.Tests.{le-leb}

@@ -1,6 +1,5 @@
 -- What follows the identifier of a declarator is read again: the climb from what stands innermost comes by each
--- declarator
--- on the left.
+-- declarator on the left.
 use Rattle.std.proofs.Common.{◌≡◌, ◌≤◌, ◌<◌, ◌+◌, ◌-◌, ℕ, suc, nat_le, Bool, true, false, List, [], ◌∷◌, ◌++◌, Option}
 use Rattle.std.proofs.Common.{Some, refl, sym, ◌∙◌, ap, subst, arith}
 use borrow.Author.Tests.{le-leb}

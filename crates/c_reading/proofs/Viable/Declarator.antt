@@ -1,6 +1,5 @@
 -- Where the reading of a declarator, a parameter, a member or a type name stops, one begins with what was read; and
--- so of all
--- parsers of every height.
+-- so of all parsers of every height.
 use Rattle.std.proofs.Common.{◌≡◌, ℕ, zero, suc, ◌<◌, max, List, [], ◌∷◌, ◌++◌, false, Option, Some, inl, inr, refl}
 use Rattle.std.proofs.Common.{sym, ◌∙◌, ap, append_assoc, arith}
 use Rattle.std.proofs.lemmas.List.{append-nil}
