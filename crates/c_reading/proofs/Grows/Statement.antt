@@ -1,5 +1,6 @@
 -- Statements and the unit are read the same with more height.
-use Rattle.std.proofs.Common.{ℕ, zero, suc, ◌≤◌, Bool, true, false, List, [], ◌∷◌, ◌++◌, Option, Some, None, is_some, arith}
+use Rattle.std.proofs.Common.{ℕ, zero, suc, ◌≤◌, Bool, true, false, List, [], ◌∷◌, ◌++◌, Option, Some, None}
+use Rattle.std.proofs.Common.{is_some, arith}
 use Rattle.critical_table.specs.declared.pos.Pos.{Pos}
 use Rattle.c_lexer.specs.declared.punct.Punct.TheVariants as p
 use Rattle.c_lexer.specs.declared.token.Body.{Body}
@@ -11,7 +12,8 @@ use Rattle.c_syntax.specs.TreeUnit.{Statement, BlockItem, SwitchItem}
 use Rattle.c_syntax.specs.Levels.{expression, conditional}
 use Rattle.c_reading.specs.Parser.{Parser, ◌>>=◌, pure, skip, expect}
 use Rattle.c_reading.specs.ReadBody.{begins_statement, begins_block_item, begins_switch_item, Statements, goes_item}
-use Rattle.c_reading.specs.ReadBody.{items_with, block_with, switch_with, an_expr, optional, controlling, else_by, if_on}
+use Rattle.c_reading.specs.ReadBody.{items_with, block_with, switch_with, an_expr, optional, controlling}
+use Rattle.c_reading.specs.ReadBody.{else_by, if_on}
 use Rattle.c_reading.specs.ReadBody.{switch_on, while_on, do_on, for_init_by, for_init, for_on, statement_by}
 use Rattle.c_reading.specs.ReadBody.{statement_at, block_item_at, case_on, switch_item_at, lowest_statements}
 use Rattle.c_reading.specs.ReadBody.{statements, block_lower, is_body, function_scope, external_declared, external_on}

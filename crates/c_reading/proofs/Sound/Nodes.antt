@@ -13,7 +13,8 @@ use Rattle.c_reading.proofs.Sound.Law.{Read, Sound, spelt}
 module _ {A L : Type 0} {Fits : A → Scope → Type 0} {tall : A → ℕ} {spelled : A → List Spelled} {adds : A
     → Scope} {AllFit : L → Scope → Type 0} {tallest : L → ℕ} {all_spelled : L → List Spelled} {make : List A → L}
     (list : NodeList Fits tall spelled adds AllFit tallest all_spelled make) (k : ℕ) (goes : Scope → Option Body → Bool)
-    (node : Scope → Parser A) (sound : (scope : Scope) → Sound (λ one. Fits one scope) tall spelled k (node scope)) where
+    (node : Scope → Parser A)
+    (sound : (scope : Scope) → Sound (λ one. Fits one scope) tall spelled k (node scope)) where
   abbrev pub NodesRead : Scope → List Token → List A → List Token → Type 0
   NodesRead scope tokens all rest = Read (λ all. AllFit all scope) tallest all_spelled k tokens (make all) rest
 

@@ -481,7 +481,8 @@ module _ (k : ℕ) (low : Parsers) (sound : AllSound k low) (viable : AllViable 
                       omitted_list_viable
                   | inr y ↦ elim (chosen (begins_declarator shape (next_body (tail tokens))) _ (fail Unfit)
                       (tail tokens) (Stopped why rest) y.1) [
-                        | inl z ↦ deeper_stopped Stops k (nested_declarator k low shape scope) (tail tokens) why rest z.1
+                        | inl z ↦ deeper_stopped Stops k (nested_declarator k low shape scope) (tail tokens) why
+                            rest z.1
                             (nested_declarator_deep (opens x.0 y.0) z.0)
                             (λ some g. nested_declarator_viable some is (opens x.0 y.0) g)
                         | inr z ↦ stopped Stops z.1 (refused paren_spelt empty_list)
