@@ -92,4 +92,4 @@ pub map_step_back : {X : Type 0} (f : X → Cell) (d : List Cell) (at : ℕ) (xs
     → set cells (at + n) v ≡ paste_back d at (map f xs) n
 map_step_back f d at xs cells m n v x up same room more is =
     paste_back_step d at (map f xs) cells n v (rw (← up) same) (rw length-map room) (rw length-map more)
-        (get_or-map f xs n x v more ∙ sym is)
+    (get_or-map f xs n x v more ∙ sym is)

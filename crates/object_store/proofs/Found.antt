@@ -19,7 +19,7 @@ pub record LiveAt (objects : List Object) (number : ℕ) : Type 0 where
 pub numbered_same : (number : ℕ) (o p : Object) → numbered number o ≡ Some p → p ≡ o
 numbered_same number o p h =
     elim (number_of o.class (place_of number + 1) == number) as (λ b. (cond b (Some o) None ≡ Some p)
-        → p ≡ o) [ true ↦ λ e. cc | false ↦ λ e. cc ] h
+    → p ≡ o) [ true ↦ λ e. cc | false ↦ λ e. cc ] h
 
 -- the same of the object at the number's place, then of what stands there, then of the store
 live_numbered : (objects : List Object) (number : ℕ) (o : Object) (own : Option Object)
@@ -53,6 +53,10 @@ pub new_found : (objects : List Object) (o : Object)
     → object_of (objects ++ o ∷ []) (number_of o.class (length objects + 1)) ≡ Some o
 new_found objects o =
     let place : place_of (number_of o.class (length objects + 1)) ≡ length objects =
-        place_of-number_of o.class (length objects) in
-    rw (place, slice_get_last objects o, place,
-        eq-eqb (number_of o.class (length objects + 1)) (number_of o.class (length objects + 1)) refl) refl
+    place_of-number_of o.class (length objects) in
+    rw (
+      place,
+      slice_get_last objects o,
+      place,
+      eq-eqb (number_of o.class (length objects + 1)) (number_of o.class (length objects + 1)) refl,
+    ) refl

@@ -67,11 +67,11 @@ with_bytes_outside objects place bytes len r e number k out =
     let here : number ≡ place.object → slice_get new.cells k ≡ slice_get o.cells k = λ is. elim out [
       | inl other ↦ absurd (other is)
       | inr sides ↦ with_cells_outside o.cells place.offset (map stored_cell bytes) k
-      (omega (arith, r.high, r.within)) (rw count sides)
+          (omega (arith, r.high, r.within)) (rw count sides)
     ] in
     rw (with_bytes_at objects place bytes o r.at) (elim (cases_eq i (place_of number)) [
       | inr ne ↦ ap
-      (λ f. slice_get (option_map_or (λ (x : Object). x.cells) (option_and_then (numbered number) f) []) k)
+          (λ f. slice_get (option_map_or (λ (x : Object). x.cells) (option_and_then (numbered number) f) []) k)
           (slice_get-set_other objects i (place_of number) new ne)
       | inl same ↦
           let at : slice_get objects (place_of number) ≡ Some o = subst (λ j. slice_get objects j ≡ Some o) same r.at in

@@ -59,21 +59,21 @@ pub passed_rows : (a : Access) (by : By) → first_case reach_table a by ≡ Non
 unfolding reach_table
 passed_rows a by h =
     let r1 = row_passed (is_no_object a)
-        (columns (Some L6) (Some L4) (Some L6) (Some L9) (Some L9) (Some L9) (Some L9) by)
-        (first_case (drop 1 reach_table) a by) h (columns-some L6 L4 L6 L9 L9 L9 L9 by) in
+    (columns (Some L6) (Some L4) (Some L6) (Some L9) (Some L9) (Some L9) (Some L9) by)
+    (first_case (drop 1 reach_table) a by) h (columns-some L6 L4 L6 L9 L9 L9 L9 by) in
     let r2 = row_passed (is_dead_even a) (Some L1) (first_case (drop 2 reach_table) a by) r1.1 refl in
     let r3 = row_passed (is_dead_odd a) (Some L11) (first_case (drop 3 reach_table) a by) r2.1 refl in
     let r4 = row_passed (has_wrong_bounds a)
-        (columns (Some L6) (Some L4) (Some L6) (Some L9) (Some L9) (Some L9) (Some L9) by)
-        (first_case (drop 4 reach_table) a by) r3.1 (columns-some L6 L4 L6 L9 L9 L9 L9 by) in
+    (columns (Some L6) (Some L4) (Some L6) (Some L9) (Some L9) (Some L9) (Some L9) by)
+    (first_case (drop 4 reach_table) a by) r3.1 (columns-some L6 L4 L6 L9 L9 L9 L9 by) in
     let r5 = row_passed (is_at_end a) (columns (Some L7) (Some L4) (Some L7) (Some L12) (Some L12) (Some L9)
-        (Some L9) by) (first_case (drop 5 reach_table) a by) r4.1 (columns-some L7 L4 L7 L12 L12 L9 L9 by) in
+    (Some L9) by) (first_case (drop 5 reach_table) a by) r4.1 (columns-some L7 L4 L7 L12 L12 L9 L9 by) in
     let r6 = row_passed (is_outside a)
-        (columns (Some L6) (Some L4) (Some L6) (Some L12) (Some L12) (Some L9) (Some L9) by)
-        (first_case (drop 6 reach_table) a by) r5.1 (columns-some L6 L4 L6 L12 L12 L9 L9 by) in
+    (columns (Some L6) (Some L4) (Some L6) (Some L12) (Some L12) (Some L9) (Some L9) by)
+    (first_case (drop 6 reach_table) a by) r5.1 (columns-some L6 L4 L6 L12 L12 L9 L9 by) in
     let r7 = row_passed (is_misaligned a)
-        (columns (Some L6) (Some L4) (Some L6) (Some L9) (Some L9) (Some L9) (Some L9) by)
-        (first_case (drop 7 reach_table) a by) r6.1 (columns-some L6 L4 L6 L9 L9 L9 L9 by) in
+    (columns (Some L6) (Some L4) (Some L6) (Some L9) (Some L9) (Some L9) (Some L9) by)
+    (first_case (drop 7 reach_table) a by) r6.1 (columns-some L6 L4 L6 L9 L9 L9 L9 by) in
     record { some = r1.0; even = r2.0; odd = r3.0; bounds = r4.0; more = r5.0; inside = r6.0; marks = r7.1 }
 
 -- an object that is found stands at its place
@@ -169,7 +169,7 @@ IsConsistent-with_bytes objects place bytes len budget live calls r e before =
     length-with_cells o.cells place.offset (map stored_cell bytes) (rw length-map (omega (arith, r.high, r.within))) in
     let same : live_size new ≡ live_size o = rw size refl in
     let sum : live_sum (set objects i new) calls ≡ live_sum objects calls =
-        live_sum-set_same objects i o new calls r.at same in
+    live_sum-set_same objects i o new calls r.at same in
     rw (with_bytes_at objects place bytes o r.at) (record {
       messages = omega (arith, before.messages, length-set {A = Object});
       few = omega (arith, before.few, length-set {A = Object});
@@ -218,16 +218,24 @@ bytes_in-found objects place len o own = rw (cells_of-found objects place.object
 pub shift_is_copy : (objects : List Object) (to from : Pointer) (len i : ℕ) (old new : Object)
     (t : IsLiveRange objects to len) (f : IsLiveRange objects from len)
     → place_of to.object ≡ place_of from.object → i ≡ place_of to.object → old ≡ get_or objects i old
-    → new ≡ record old { cells =
-    with_cells old.cells to.offset (map stored_cell (map (λ c. c.byte) (range old.cells from.offset len))) }
+    → new ≡ record old {
+      cells =
+          with_cells old.cells to.offset (map stored_cell (map (λ c. c.byte) (range old.cells from.offset len)));
+    }
     → set objects i new ≡ with_bytes objects to (bytes_in objects from len)
 shift_is_copy objects to from len i old new t f same at is moves =
     let o : Object = t.object in
     let here : slice_get objects i ≡ Some o = rw at t.at in
     let old_is : old ≡ o = is ∙ get_or_from_slice_get objects i o old here in
     let one : f.object ≡ o = same_Some f.object o (sym f.at ∙ rw (← same) t.at) in
-    rw (with_bytes_at objects to (bytes_in objects from len) o t.at, bytes_in-found objects from len f.object f.own,
-        one, moves, old_is, at) refl
+    rw (
+      with_bytes_at objects to (bytes_in objects from len) o t.at,
+      bytes_in-found objects from len f.object f.own,
+      one,
+      moves,
+      old_is,
+      at,
+    ) refl
 
 -- bytes are copied between two objects, while the cells of the one that is stored to are out of the list
 pub copy_is_store : (objects mid final : List Object) (to from : Pointer) (len i : ℕ) (source cells : List Cell)
@@ -240,9 +248,9 @@ pub copy_is_store : (objects mid final : List Object) (to from : Pointer) (len i
     → final ≡ with_bytes objects to (bytes_in objects from len)
 copy_is_store objects mid final to from len i source cells t f at ne out read moves back =
     let own : object_of mid from.object ≡ Some f.object =
-        rw out (object_of-set_other objects i from.object (record t.object { cells = [] }) ne ∙ f.own) in
+    rw out (object_of-set_other objects i from.object (record t.object { cells = [] }) ne ∙ f.own) in
     let source_is : source ≡ range f.object.cells from.offset len =
-        rw (cells_of-found mid from.object f.object own) at read in
+    rw (cells_of-found mid from.object f.object own) at read in
     rw (
       back,
       out,
@@ -261,6 +269,6 @@ pub length_read : (objects mid : List Object) (from : Pointer) (len i : ℕ) (y 
     → length source ≡ len
 length_read objects mid from len i y source f ne out read =
     let own : object_of mid from.object ≡ Some f.object =
-        rw out (object_of-set_other objects i from.object y ne ∙ f.own) in
+    rw out (object_of-set_other objects i from.object y ne ∙ f.own) in
     rw (read, cells_of-found mid from.object f.object own)
-        (length-range f.object.cells from.offset len (omega (arith, f.high, f.within)))
+    (length-range f.object.cells from.offset len (omega (arith, f.high, f.within)))

@@ -1,16 +1,14 @@
 -- What a range holds after a store.
-use Rattle.std.proofs.Common.{◌≡◌, ℕ, ◌+◌, ◌<◌, ◌≤◌, ◌==◌, Bool, true, false, cond, arith, refl, ap, sym, ◌∙◌}
-use Rattle.std.proofs.Common.{List, [], ◌∷◌, ◌++◌, length, map, take, drop, set, slice_get, Option, Some, None}
+use Rattle.std.proofs.Common.{◌≡◌, ℕ, ◌+◌, ◌≤◌, ◌==◌, true, false, cond, arith, refl, ap, sym, ◌∙◌}
+use Rattle.std.proofs.Common.{List, [], ◌∷◌, ◌++◌, length, map, take, drop, set, Option, Some, None}
 use Rattle.std.proofs.Common.{append_assoc}
 use Rattle.std.proofs.Math.Seq.{drop-append_seam, take-append_seam}
 use Rattle.std.proofs.lemmas.List.{length-take-le, length-map}
 use Rattle.object_store.specs.declared.cell.Cell.{Cell}
 use Rattle.object_store.specs.declared.pointer.Pointer.{Pointer}
 use Rattle.object_store.specs.Object.{Object, number_of, place_of, numbered, object_of}
-use Rattle.object_store.specs.Storage.{Storage}
-use Rattle.object_store.specs.Steps.{with_cells, range, stored_cell, bytes_in, bytes_at, with_bytes, with_store}
+use Rattle.object_store.specs.Steps.{with_cells, range, stored_cell, bytes_in, with_bytes, with_store}
 use Rattle.object_store.specs.Ranges.{IsLiveRange}
-use Rattle.object_store.specs.Reach.{IsReachedToStore}
 use Rattle.object_store.specs.Changes.{StoresAreThere}
 use Rattle.object_store.proofs.RangeLemmas.{in_range_to_store, slice_get-set_same, with_bytes_at, bytes_in-found}
 
@@ -53,7 +51,7 @@ bytes_in-with_bytes objects place bytes r =
     let there : numbered place.object o ≡ Some o = rw r.at at r.own in
     let own : object_of (set objects i new) place.object ≡ Some new =
     rw (slice_get-set_same objects i o new r.at)
-        (numbered-change place.object o (with_cells o.cells place.offset cells) there) in
+    (numbered-change place.object o (with_cells o.cells place.offset cells) there) in
     let count : length cells ≡ length bytes = length-map bytes stored_cell in
     let read : range new.cells place.offset (length bytes) ≡ cells =
     ap (λ n. range new.cells place.offset n) (sym count)

@@ -62,7 +62,7 @@ no_case false false false h = (refl, refl, refl)
 pub unmarked : (cs : List Cell) → marked_case cs ≡ None → marks cs ≡ replicate (length cs) Plain
 unmarked cs h =
     let none = no_case (list_any (λ c. is_clash c.mark) cs) (list_any (λ c. is_literal c.mark) cs)
-        (list_any (λ c. is_const c.mark) cs) h in
+    (list_any (λ c. is_const c.mark) cs) h in
     plain_marks cs none.0 none.1 none.2
 
 pub marks-stored_cells : (bytes : List (Option ℕ)) → marks (map stored_cell bytes) ≡ replicate (length bytes) Plain
@@ -98,7 +98,7 @@ any_marks is_it o p at len same =
     let moved : (cs : List Cell) → marks (range cs at len) ≡ take len (drop at (marks cs)) =
     λ cs. rw (drop-map, take-map) refl in
     any_mark is_it (range o.cells at len)
-        ∙ ap (list_any is_it) (moved o.cells ∙ ap (λ ms. take len (drop at ms)) same ∙ sym (moved p.cells))
+    ∙ ap (list_any is_it) (moved o.cells ∙ ap (λ ms. take len (drop at ms)) same ∙ sym (moved p.cells))
     ∙ sym (any_mark is_it (range p.cells at len))
 
 -- accesses to objects of one reach are the same case
@@ -141,24 +141,26 @@ with_bytes_alike objects place bytes r plain number =
     let new : Object = record o { cells = with_cells o.cells place.offset (map stored_cell bytes) } in
     let part : List Cell = range o.cells place.offset (length bytes) in
     let count : length part ≡ length bytes =
-        length-range o.cells place.offset (length bytes) (omega (arith, r.high, r.within)) in
+    length-range o.cells place.offset (length bytes) (omega (arith, r.high, r.within)) in
     let same_part : marks (map stored_cell bytes) ≡ marks part = marks-stored_cells bytes
-        ∙ sym (rw count at (unmarked part plain)) in
+    ∙ sym (rw count at (unmarked part plain)) in
     let same_marks : marks new.cells ≡ marks o.cells =
     marks-with_cells o.cells place.offset (length bytes) (map stored_cell bytes) (length-map bytes stored_cell)
-        same_part in
+    same_part in
     let alike : Alike (Some new) (Some o) = (refl, same_marks) in
     let case_here : i ≡ place_of number → Alike (object_of (set objects i new) number) (object_of objects number) =
-        λ same.
+    λ same.
     let at : slice_get objects (place_of number) ≡ Some o = subst (λ j. slice_get objects j ≡ Some o) same r.at in
     let at_new : slice_get (set objects i new) (place_of number) ≡ Some new =
     subst (λ j. slice_get (set objects i new) j ≡ Some new) same (slice_get-set_same objects i o new r.at) in
     rw (at_new, at) (alike_numbered (number_of o.class (place_of number + 1) == number) new o alike) in
     let case_other : i ≢ place_of number → Alike (object_of (set objects i new) number) (object_of objects number) =
-        λ ne.
+    λ ne.
     rw (slice_get-set_other objects i (place_of number) new ne) (alike_itself (object_of objects number)) in
-    rw (with_bytes_at objects place bytes o r.at) (elim (cases_eq i (place_of number)) [ inl same ↦ case_here same
-        | inr ne ↦ case_other ne ])
+    rw (with_bytes_at objects place bytes o r.at) (elim (cases_eq i (place_of number)) [
+      | inl same ↦ case_here same
+      | inr ne ↦ case_other ne
+    ])
 
 -- the marks of a range that was reached to store
 pub plain_range : (s : Storage) (place : Pointer) (len : ℕ) (reached : IsReachedToStore s place len)
@@ -168,7 +170,7 @@ plain_range s place len reached r =
     let a : Access = access s place len reached.align in
     let none : first_case (drop 7 reach_table) a reached.by ≡ None = (passed_rows a reached.by reached.reached).marks in
     let told : marked_case (range (cells a) place.offset len) ≡ None = sym (mark_rows a reached.by reached.storing)
-        ∙ none in
+    ∙ none in
     let own : cells a ≡ r.object.cells = rw r.own refl in
     rw own at told
 
@@ -183,7 +185,7 @@ reach-with_store s place (b ∷ bytes) reached other len align by =
     let r : IsLiveRange s.objects place (length (b ∷ bytes)) = in_range_to_store s place (length (b ∷ bytes)) reached in
     case_alike (object_of (with_bytes s.objects place (b ∷ bytes)) other.object) (object_of s.objects other.object)
     (with_bytes_alike s.objects place (b ∷ bytes) r (plain_range s place (length (b ∷ bytes)) reached r)
-        other.object) other len align by
+    other.object) other len align by
 
 -- the same, as the operations of the store say it
 pub with_store_reach : (s new : Storage) (place : Pointer) (bytes : List (Option ℕ)) (len : ℕ)
@@ -191,4 +193,4 @@ pub with_store_reach : (s new : Storage) (place : Pointer) (bytes : List (Option
     → new ≡ with_store s place bytes → SameReach s new
 with_store_reach s new place bytes len reached e is =
     subst (λ (x : Storage). SameReach s x) (sym is)
-        (reach-with_store s place bytes (subst (λ n. IsReachedToStore s place n) e reached))
+    (reach-with_store s place bytes (subst (λ n. IsReachedToStore s place n) e reached))

@@ -1,13 +1,12 @@
 -- Subranges of a range that was reached are reached.
-use Rattle.std.proofs.Common.{◌≡◌, ℕ, zero, suc, ◌+◌, ◌%◌, ◌<◌, ◌≤◌, ◌⊎◌, ◌||◌, inl, inr, Bool, true, false, arith}
+use Rattle.std.proofs.Common.{◌≡◌, ℕ, zero, suc, ◌+◌, ◌≤◌, ◌⊎◌, inl, inr, Bool, true, false, arith}
 use Rattle.std.proofs.Common.{refl, sym, ◌∙◌}
-use Rattle.std.proofs.Common.{List, [], ◌∷◌, length, take, drop, Option, Some, None, cond}
+use Rattle.std.proofs.Common.{List, [], ◌∷◌, take, drop, Option, None, cond}
 use Rattle.std.specs.List.{list_any}
 use Rattle.std.specs.Option.{option_or}
 use Rattle.std.proofs.lemmas.Grind.{common_steps}
 use Rattle.std.proofs.lemmas.List.{drop-drop}
 use Rattle.critical_table.specs.declared.case.Case.{Case}
-use Rattle.critical_table.specs.declared.case.Case.TheVariants.{L2, L5, L8}
 use Rattle.object_store.specs.declared.by.By.{By}
 use Rattle.object_store.specs.declared.by.By.TheVariants.{Star, Arrow, Store, TextRead, TextWrite, OtherRead}
 use Rattle.object_store.specs.declared.by.By.TheVariants.{OtherWrite}
@@ -17,8 +16,7 @@ use Rattle.object_store.specs.Storage.{Storage}
 use Rattle.object_store.specs.Steps.{range}
 use Rattle.object_store.specs.Marks.{marked_case}
 use Rattle.object_store.specs.Reach.{Access, access, cells, first_case, reach_table, reach, stores, has_mark}
-use Rattle.object_store.specs.Reach.{is_clash, is_literal, is_const, is_at_end, is_outside, is_misaligned, IsReached}
-use Rattle.object_store.specs.Reach.{IsReachedToStore}
+use Rattle.object_store.specs.Reach.{is_clash, is_literal, is_const, is_at_end, is_outside, is_misaligned}
 use Rattle.object_store.specs.Subranges.{move_by, SubrangesAreReached, SubrangesAreReachedToStore}
 use Rattle.object_store.proofs.RangeLemmas.{Passed, passed_rows}
 use Rattle.object_store.proofs.ReachRows.{front_rows, bounds_rows, mark_rows}

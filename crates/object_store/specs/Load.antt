@@ -4,7 +4,7 @@ use Rattle.std.specs.Prelude.{List, [], ◌∷◌, ◌++◌, take, drop, map}
 use Rattle.std.specs.Prelude.{Option, Some, None, unwrap_or, ok_or, Result, Ok, Err, if◌then◌else◌}
 use Rattle.std.specs.Option.{option_map}
 use Rattle.acc_num.specs.declared.kind.IntKind.{IntKind}
-use Rattle.acc_num.specs.declared.kind.IntKind.TheVariants.{Bool as Truth, I8, U8, I16, U16, I32, U32, I64, U64}
+use Rattle.acc_num.specs.declared.kind.IntKind.TheVariants.{Bool as Truth, U8}
 use Rattle.acc_num.specs.Kinds.{width_of, bytes_of}
 use Rattle.acc_num.specs.Operations.{represented_by}
 use Rattle.critical_table.specs.declared.code.Code.{Code}

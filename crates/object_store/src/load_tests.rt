@@ -102,6 +102,7 @@ fn loads_pointers(rt: HostRuntime) {
         high: 65_536,
     };
     let place = pointer(object, 0, 32);
+    let _ = store.taken();
     store.reach(place, 16, 8, By::Store).expect(&rt, "reached");
     store.put_pointer(place, stored);
     assert_eq!(rt;

@@ -8,8 +8,8 @@ use Rattle.object_store.proofs.cells.copy_bytes.Goals as goal
 pub loop-i-preserved : goal.loop-i-preserved
 loop-i-preserved c =
     map_step stored_cell c.args.cells.now c.args.at (map (λ c. c.byte) c.args.source.now) c.loop-i.cells c.loop-i.i
-        c.plain.result None
+    c.plain.result None
     c.loop-i.invariant (rw length-map (omega arith)) (rw length-map (omega arith))
     (c.plain.ensures
-        ∙ ap stored_cell
-        (sym (get_or-map (λ c. c.byte) c.args.source.now c.loop-i.i (stored_cell None) None (omega arith))))
+    ∙ ap stored_cell
+    (sym (get_or-map (λ c. c.byte) c.args.source.now c.loop-i.i (stored_cell None) None (omega arith))))

@@ -11,8 +11,8 @@ loop-i-preserved c =
     let old : List Cell = c.args.cells.now in
     let count = length-range old c.args.at c.args.len (omega arith) in
     map_step (mark_cell c.args.mark) old c.args.at (range old c.args.at c.args.len) c.loop-i.cells c.loop-i.i _
-        (stored_cell None)
+    (stored_cell None)
     c.loop-i.invariant (omega arith) (omega arith)
     (ap (mark_cell c.args.mark) (read_paste old c.args.at _ c.loop-i.i c.loop-i.cells c.loop-i.invariant c.args.at
-        c.args.len
+    c.args.len
     c.loop-i.i (stored_cell None) (omega arith) (omega arith) (omega arith) (rw length-map (omega arith))))

@@ -17,6 +17,6 @@ loop-i-preserved c =
     c.loop-i.invariant (omega arith) (omega arith)
     (c.plain.ensures ∙ ap stored_cell (ap (λ (x : Cell). x.byte)
     (read_paste old c.args.to (map stored_cell bytes) c.loop-i.i c.loop-i.cells c.loop-i.invariant c.args.from
-        c.args.len
+    c.args.len
     c.loop-i.i (stored_cell None) (omega arith) (omega arith) (omega arith) (rw length-map (omega arith)))
     ∙ sym (get_or-map (λ c. c.byte) moved c.loop-i.i (stored_cell None) None (omega arith))))

@@ -19,7 +19,7 @@ loop-left-preserved c =
           (omega arith) c.loop-left.invariant.1 (omega arith) (omega arith)
           (c.plain.ensures ∙ ap stored_cell (ap (λ (x : Cell). x.byte)
           (read_paste_back old c.args.to (map stored_cell bytes) c.loop-left.left c.loop-left.cells
-              c.loop-left.invariant.1
+          c.loop-left.invariant.1
           c.args.from c.args.len n (stored_cell None) (omega arith) (omega arith) (omega arith))
           ∙ sym (get_or-map (λ c. c.byte) moved n (stored_cell None) None (omega arith)))),
     )

@@ -7,7 +7,7 @@ use Rattle.object_store.proofs.cells.move_up.Given as goal
 abbrev pub invariant-loop-left : goal.invariant-loop-left
 invariant-loop-left l = (l.left ≤ l.len) × (
     l.cells ≡ paste_back l.initial.cells l.to
-        (map stored_cell (map (λ c. c.byte) (range l.initial.cells l.from l.len))) l.left)
+    (map stored_cell (map (λ c. c.byte) (range l.initial.cells l.from l.len))) l.left)
 
 abbrev pub decreases-loop-left : goal.decreases-loop-left
 decreases-loop-left l = l.left

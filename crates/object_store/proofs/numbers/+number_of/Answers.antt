@@ -9,8 +9,11 @@ below_rest : (cells : List Cell) (n : ℕ) → length cells ≤ 8
     → n < 256 ^ length (take (length cells - 1) (drop 1 cells)) → n < 256 ^ 7
 below_rest cells n few below =
     let count : length (take (length cells - 1) (drop 1 cells)) ≤ 7 = rw (length-take, length-drop) (omega arith) in
-    omega (arith, pow-le-pow_right {n = 256} (lit< tt) {i = length (take (length cells - 1) (drop 1 cells))} {j =
-        7} count)
+    omega (
+      arith,
+      pow-le-pow_right {n = 256} (lit< tt) {i = length (take (length cells - 1) (drop 1 cells))} {j =
+          7} count,
+    )
 
 pub join-requires : goal.join-requires
 join-requires t c =

@@ -21,26 +21,31 @@ pub invariant_of-self : goal.invariant_of-self
 invariant_of-self c =
     let r = rw (← c.self.view_is) at (in_range_to_store c.args.self.now c.args.place c.args.len c.requires.reached) in
     rw c.fill_at.ensures
-        (IsConsistent-with_bytes c.self.inside.slots.items c.args.place (replicate c.args.len (Some c.args.byte))
-        c.args.len c.self.inside.budget
+    (IsConsistent-with_bytes c.self.inside.slots.items c.args.place (replicate c.args.len (Some c.args.byte))
+    c.args.len c.self.inside.budget
     c.self.inside.live c.self.inside.open_calls r (sym (length-replicate c.args.len (Some c.args.byte)))
-        c.self.invariant)
+    c.self.invariant)
 
 pub returns-clause-stored : goal.returns-clause-stored
 returns-clause-stored c =
-    let s : Storage = record { objects = c.self.inside.slots.items; budget = c.self.inside.budget; open_calls =
-        c.self.inside.open_calls; writes = c.self.inside.writes } in
+    let s : Storage = record {
+      objects = c.self.inside.slots.items;
+      budget = c.self.inside.budget;
+      open_calls =
+          c.self.inside.open_calls;
+      writes = c.self.inside.writes;
+    } in
     rw (← c.self.view_is) (with_store_some s c.args.place (replicate c.args.len (Some c.args.byte))
-        c.fill_at.new.slots.items c.push.new.self c.args.len
+    c.fill_at.new.slots.items c.push.new.self c.args.len
     (omega arith) (sym (length-replicate c.args.len (Some c.args.byte))) c.fill_at.ensures c.push.ensures)
 
 pub returns-clause-alone : goal.returns-clause-alone
 returns-clause-alone c =
     (with_store_alone c.args.self.now _ c.args.place (replicate c.args.len (Some c.args.byte)) c.args.len
     (in_range_to_store c.args.self.now c.args.place c.args.len c.requires.reached)
-        (sym (length-replicate c.args.len (Some c.args.byte))) (returns-clause-stored c))
+    (sym (length-replicate c.args.len (Some c.args.byte))) (returns-clause-stored c))
 
 pub returns-clause-reach : goal.returns-clause-reach
 returns-clause-reach c =
     with_store_reach c.args.self.now _ c.args.place (replicate c.args.len (Some c.args.byte)) c.args.len
-        c.requires.reached (sym (length-replicate c.args.len (Some c.args.byte))) (returns-clause-stored c)
+    c.requires.reached (sym (length-replicate c.args.len (Some c.args.byte))) (returns-clause-stored c)

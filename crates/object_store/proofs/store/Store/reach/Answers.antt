@@ -5,7 +5,7 @@ use Rattle.object_store.proofs.store.Store.reach.Goals as goal
 pub returns-in-Some-clause-reached : goal.returns-in-Some-clause-reached
 returns-in-Some-clause-reached c =
     ok_reached c.args.self.now c.args.place c.args.len c.args.align c.args.by c.reach.result
-        (rw (← c.in-Some.ensures.found) c.reach.ensures.table)
+    (rw (← c.in-Some.ensures.found) c.reach.ensures.table)
 
 pub returns-in-Some-clause-stores : goal.returns-in-Some-clause-stores
 returns-in-Some-clause-stores c =

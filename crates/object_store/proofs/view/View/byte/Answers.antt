@@ -10,5 +10,5 @@ pub returns : goal.returns
 returns c =
     let cells : List Cell = c.self.inside.cells.now in
     let same : length cells ≡ length c.args.self.now = sym (length-map cells (λ x. x.byte))
-        ∙ ap length c.self.view_is in
+    ∙ ap length c.self.view_is in
     rw (← c.self.view_is, slice_get-map, slice_get-get_or cells c.args.index (stored_cell None) (omega arith)) refl
