@@ -1,3 +1,4 @@
+-- The parts of a type have lower ids; the parameters so far agree.
 use Rattle.std.proofs.Common.{◌≡◌, ◌+◌, ◌*◌, drop}
 use Rattle.c_types.specs.CType.{types_at, all_types}
 use Rattle.c_types.specs.Compatible.{all_agree}
@@ -14,4 +15,5 @@ decreases-parameters_agree l = 3 * l.a.0
 
 abbrev pub invariant-parameters_agree-loop-i : goal.invariant-parameters_agree-loop-i
 invariant-parameters_agree-loop-i l =
-    all_agree (types_at (all_types l.self) l.left) (types_at (all_types l.self) l.right) ≡ all_agree (types_at (all_types l.self) (drop l.i l.left)) (types_at (all_types l.self) (drop l.i l.right))
+    all_agree (types_at (all_types l.self) l.left) (types_at (all_types l.self) l.right)
+    ≡ all_agree (types_at (all_types l.self) (drop l.i l.left)) (types_at (all_types l.self) (drop l.i l.right))

@@ -1,3 +1,4 @@
+-- The parts of a type have lower ids; the composites of the parameters so far are made.
 use Rattle.std.proofs.Common.{◌+◌, ◌*◌, take}
 use Rattle.c_types.specs.CType.{types_at, all_types}
 use Rattle.c_types.specs.Composite.{all_composites, MakesTypes, AddsTypes}
@@ -14,5 +15,7 @@ decreases-compose_parameters l = 3 * l.a.0
 
 abbrev pub invariant-compose_parameters-loop-i : goal.invariant-compose_parameters-loop-i
 invariant-compose_parameters-loop-i l =
-    MakesTypes l.initial.self l.self l.made.items (all_composites (types_at (all_types l.initial.self) (take l.i l.left.items)) (types_at (all_types l.initial.self) (take l.i l.right.items)))
+    MakesTypes l.initial.self l.self l.made.items
+    (all_composites (types_at (all_types l.initial.self) (take l.i l.left.items))
+    (types_at (all_types l.initial.self) (take l.i l.right.items)))
     × AddsTypes l.initial.self l.self
