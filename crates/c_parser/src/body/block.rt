@@ -78,7 +78,8 @@ fn block_item_at<'a>(
     tokens: &'a [Token],
 ) -> Result<(Box<BlockItem>, &'a [Token]), Fault<'a>>
     requires { k < 2 ^ 32 }
-    ensures reads { Gives (λ x. block_item_of x.value) (spec.block_item_at k (spec.statements k) scope.old tokens.now) result }
+    ensures reads { Gives (λ x. block_item_of x.value)
+        (spec.block_item_at k (spec.statements k) scope.old tokens.now) result }
     ensures scope { IfOk result (λ x. scope.new ≡ scope.old ++ block_item_adds (block_item_of x.0.value)) }
 {
     if begins_type(scope, tokens) {
@@ -127,7 +128,8 @@ fn switch_item_at<'a>(
     tokens: &'a [Token],
 ) -> Result<(Box<SwitchItem>, &'a [Token]), Fault<'a>>
     requires { k < 2 ^ 32 }
-    ensures reads { Gives (λ x. switch_item_of x.value) (spec.switch_item_at k (spec.statements k) scope.old tokens.now) result }
+    ensures reads { Gives (λ x. switch_item_of x.value)
+        (spec.switch_item_at k (spec.statements k) scope.old tokens.now) result }
     ensures scope { IfOk result (λ x. scope.new ≡ scope.old ++ switch_item_adds (switch_item_of x.0.value)) }
 {
     let pos = place(tokens);
@@ -157,7 +159,8 @@ fn case_on<'a>(
     tokens: &'a [Token],
 ) -> Result<(Box<SwitchItem>, &'a [Token]), Fault<'a>>
     requires { k < 2 ^ 32 }
-    ensures reads { Gives (λ x. switch_item_of x.value) (spec.case_on k (spec.statements k) scope.old pos tokens.now) result }
+    ensures reads { Gives (λ x. switch_item_of x.value)
+        (spec.case_on k (spec.statements k) scope.old pos tokens.now) result }
     ensures scope { IfOk result (λ x. scope.new ≡ scope.old ++ switch_item_adds (switch_item_of x.0.value)) }
 {
     let (value, rest) = expr(alloc, scope, k, CONDITIONAL, tokens)?;

@@ -68,7 +68,8 @@ fn initializer_at<'a>(
     tokens: &'a [Token],
 ) -> Result<(Box<Initializer>, &'a [Token]), Fault<'a>>
     requires { k + 1 < 2 ^ 32 }
-    ensures reads { Gives (λ x. initializer_of x.value) (spec.initializer_at k (spec.initializers k) scope.old tokens.now)
+    ensures reads { Gives (λ x. initializer_of x.value)
+        (spec.initializer_at k (spec.initializers k) scope.old tokens.now)
         result }
     ensures scope { IfOk result (λ x. scope.new ≡ scope.old ++ initializer_adds (initializer_of x.0.value)) }
 {
@@ -94,7 +95,8 @@ fn braces<'a>(
     tokens: &'a [Token],
 ) -> Result<(Box<Initializer>, &'a [Token]), Fault<'a>>
     requires { k < 2 ^ 32 }
-    ensures reads { Gives (λ x. initializer_of x.value) (spec.braces k (spec.initializers k) scope.old pos tokens.now) result }
+    ensures reads { Gives (λ x. initializer_of x.value)
+        (spec.braces k (spec.initializers k) scope.old pos tokens.now) result }
     ensures scope { IfOk result (λ x. scope.new ≡ scope.old ++ initializer_adds (initializer_of x.0.value)) }
 {
     let (all, rest) = listed_items(alloc, scope, k, tokens)?;

@@ -61,7 +61,8 @@ pub(crate) fn switch_on<'a>(
     tokens: &'a [Token],
 ) -> Result<(Box<Statement>, &'a [Token]), Fault<'a>>
     requires { k < 2 ^ 32 }
-    ensures reads { Gives (λ x. statement_of x.value) (spec.switch_on k (spec.statements k) scope.old pos tokens.now) result }
+    ensures reads { Gives (λ x. statement_of x.value)
+        (spec.switch_on k (spec.statements k) scope.old pos tokens.now) result }
     ensures scope { IfOk result (λ x. scope.new ≡ scope.old ++ statement_adds (statement_of x.0.value)) }
 {
     let outer = scope.len();

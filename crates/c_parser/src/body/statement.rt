@@ -160,7 +160,8 @@ fn expression_statement<'a>(
     tokens: &'a [Token],
 ) -> Result<(Box<Statement>, &'a [Token]), Fault<'a>>
     requires { k < 2 ^ 32 }
-    ensures reads { Gives (λ x. statement_of x.value) (spec.expression_statement k (spec.statements k) scope.old tokens.now)
+    ensures reads { Gives (λ x. statement_of x.value)
+        (spec.expression_statement k (spec.statements k) scope.old tokens.now)
         result }
     ensures scope { IfOk result (λ x. scope.new ≡ scope.old ++ statement_adds (statement_of x.0.value)) }
 {
@@ -178,7 +179,8 @@ fn return_on<'a>(
     tokens: &'a [Token],
 ) -> Result<(Box<Statement>, &'a [Token]), Fault<'a>>
     requires { k < 2 ^ 32 }
-    ensures reads { Gives (λ x. statement_of x.value) (spec.return_on k (spec.statements k) scope.old pos tokens.now) result }
+    ensures reads { Gives (λ x. statement_of x.value)
+        (spec.return_on k (spec.statements k) scope.old pos tokens.now) result }
     ensures scope { IfOk result (λ x. scope.new ≡ scope.old ++ statement_adds (statement_of x.0.value)) }
 {
     let (value, rest) = optional(alloc, scope, k, Punct::Semicolon, tokens)?;

@@ -32,7 +32,8 @@ pub(crate) fn compound<'a>(
     tokens: &'a [Token],
 ) -> Result<(Part<Specifier>, &'a [Token]), Fault<'a>>
     requires { k < 2 ^ 32 }
-    ensures reads { Gives (λ x. specifier_of x.node.value) (spec.compound k (parsers k) scope.old pos word tokens.now) result }
+    ensures reads { Gives (λ x. specifier_of x.node.value)
+        (spec.compound k (parsers k) scope.old pos word tokens.now) result }
     ensures height { IfOk result (λ x. (x.0.height ≡ specifier_height (specifier_of x.0.node.value))
         × (x.0.height ≤ k + 1)) }
     ensures scope { IfOk result (λ x. scope.new ≡ scope.old ++ specifier_adds (specifier_of x.0.node.value)) }
@@ -78,7 +79,8 @@ fn compound_tag<'a>(
     tokens: &'a [Token],
 ) -> Result<(Part<Specifier>, &'a [Token]), Fault<'a>>
     requires { k < 2 ^ 32 }
-    ensures reads { Gives (λ x. specifier_of x.node.value) (spec.compound_tag k (parsers k) scope.old pos word tag tokens.now)
+    ensures reads { Gives (λ x. specifier_of x.node.value)
+        (spec.compound_tag k (parsers k) scope.old pos word tag tokens.now)
         result }
     ensures height { IfOk result (λ x. (x.0.height ≡ specifier_height (specifier_of x.0.node.value))
         × (x.0.height ≤ k + 1)) }

@@ -101,7 +101,8 @@ pub(crate) fn declarator_at<'a>(
     tokens: &'a [Token],
 ) -> Result<(Part<Declarator>, &'a [Token]), Fault<'a>>
     requires { k < 2 ^ 32 }
-    ensures reads { Gives (λ x. declarator_of x.node.value) (spec.declarator_at k (parsers k) form scope.old tokens.now) result }
+    ensures reads { Gives (λ x. declarator_of x.node.value)
+        (spec.declarator_at k (parsers k) form scope.old tokens.now) result }
     ensures height { IfOk result (λ x. (x.0.height ≡ declarator_height (declarator_of x.0.node.value))
         × (x.0.height ≤ k + 1)) }
     ensures scope { IfOk result (λ x. scope.new ≡ scope.old ++ declarator_adds (declarator_of x.0.node.value)) }
@@ -240,7 +241,8 @@ fn behind_paren<'a>(
     tokens: &'a [Token],
 ) -> Result<(Part<Declarator>, &'a [Token]), Fault<'a>>
     requires { k < 2 ^ 32 }
-    ensures reads { Gives (λ x. declarator_of x.node.value) (spec.behind_paren k (parsers k) form scope.old tokens.now) result }
+    ensures reads { Gives (λ x. declarator_of x.node.value)
+        (spec.behind_paren k (parsers k) form scope.old tokens.now) result }
     ensures height { IfOk result (λ x. (x.0.height ≡ declarator_height (declarator_of x.0.node.value))
         × (x.0.height ≤ k + 1)) }
     ensures scope { IfOk result (λ x. scope.new ≡ scope.old ++ declarator_adds (declarator_of x.0.node.value)) }
@@ -302,7 +304,8 @@ fn nested_declarator<'a>(
     tokens: &'a [Token],
 ) -> Result<(Part<Declarator>, &'a [Token]), Fault<'a>>
     requires { k < 2 ^ 32 }
-    ensures reads { Gives (λ x. declarator_of x.node.value) (spec.nested_declarator k (parsers k) form scope.old tokens.now)
+    ensures reads { Gives (λ x. declarator_of x.node.value)
+        (spec.nested_declarator k (parsers k) form scope.old tokens.now)
         result }
     ensures height { IfOk result (λ x. (x.0.height ≡ declarator_height (declarator_of x.0.node.value))
         × (x.0.height ≤ k + 1)) }
@@ -324,7 +327,8 @@ fn bracket_declarator<'a>(
     tokens: &'a [Token],
 ) -> Result<(Part<Declarator>, &'a [Token]), Fault<'a>>
     requires { k < 2 ^ 32 }
-    ensures reads { Gives (λ x. declarator_of x.node.value) (spec.bracket_by k (parsers k) form scope.old tokens.now) result }
+    ensures reads { Gives (λ x. declarator_of x.node.value)
+        (spec.bracket_by k (parsers k) form scope.old tokens.now) result }
     ensures height { IfOk result (λ x. (x.0.height ≡ declarator_height (declarator_of x.0.node.value))
         × (x.0.height ≤ k + 1)) }
     ensures scope { IfOk result (λ x. scope.new ≡ scope.old ++ declarator_adds (declarator_of x.0.node.value)) }

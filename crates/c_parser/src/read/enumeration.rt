@@ -72,7 +72,8 @@ fn enum_tag<'a>(
     tokens: &'a [Token],
 ) -> Result<(Part<Specifier>, &'a [Token]), Fault<'a>>
     requires { k < 2 ^ 32 }
-    ensures reads { Gives (λ x. specifier_of x.node.value) (spec.enum_tag k (parsers k) scope.old pos tag tokens.now) result }
+    ensures reads { Gives (λ x. specifier_of x.node.value)
+        (spec.enum_tag k (parsers k) scope.old pos tag tokens.now) result }
     ensures height { IfOk result (λ x. (x.0.height ≡ specifier_height (specifier_of x.0.node.value))
         × (x.0.height ≤ k + 1)) }
     ensures scope { IfOk result (λ x. scope.new ≡ scope.old ++ specifier_adds (specifier_of x.0.node.value)) }
@@ -95,7 +96,8 @@ fn enum_body<'a>(
     tokens: &'a [Token],
 ) -> Result<(Part<Specifier>, &'a [Token]), Fault<'a>>
     requires { k < 2 ^ 32 }
-    ensures reads { Gives (λ x. specifier_of x.node.value) (spec.enum_body k (parsers k) scope.old pos tag tokens.now) result }
+    ensures reads { Gives (λ x. specifier_of x.node.value)
+        (spec.enum_body k (parsers k) scope.old pos tag tokens.now) result }
     ensures height { IfOk result (λ x. (x.0.height ≡ specifier_height (specifier_of x.0.node.value))
         × (x.0.height ≤ k + 1)) }
     ensures scope { IfOk result (λ x. scope.new ≡ scope.old ++ specifier_adds (specifier_of x.0.node.value)) }
@@ -116,7 +118,8 @@ fn listed_enumerators<'a>(
     requires { k < 2 ^ 32 }
     ensures reads { Gives (λ x. (map enumerator_of x.0.nodes.items, x.1))
         (spec.listed_enumerators k (parsers k) scope.old tokens.now) result }
-    ensures height { IfOk result (λ x. (x.0.0.height ≡ enumerators_height (enumerators (map enumerator_of x.0.0.nodes.items)))
+    ensures height { IfOk result (λ x. (x.0.0.height ≡
+        enumerators_height (enumerators (map enumerator_of x.0.0.nodes.items)))
         × (x.0.0.height ≤ k)) }
     ensures scope { IfOk result (λ x. scope.new
         ≡ scope.old ++ enumerators_add (enumerators (map enumerator_of x.0.0.nodes.items))) }

@@ -113,7 +113,8 @@ fn listed_declarators<'a>(
     requires { k < 2 ^ 32 }
     ensures reads { Gives (λ x. (map declarator_of x.nodes.items, false))
         (spec.listed_declarators k (parsers k) scope.old tokens.now) result }
-    ensures height { IfOk result (λ x. (x.0.height ≡ declarators_height (declarators (map declarator_of x.0.nodes.items)))
+    ensures height { IfOk result (λ x. (x.0.height ≡
+        declarators_height (declarators (map declarator_of x.0.nodes.items)))
         × (x.0.height ≤ k)) }
     ensures scope { IfOk result (λ x. scope.new
         ≡ scope.old ++ declarators_add (declarators (map declarator_of x.0.nodes.items))) }

@@ -36,7 +36,8 @@ pub(crate) fn parameters_at<'a>(
     requires { k < 2 ^ 32 }
     ensures reads { Gives (λ x. (parameters (map parameter_of x.all.nodes.items), x.variadic))
         (spec.parameters_at k (parsers k) scope.old tokens.now) result }
-    ensures height { IfOk result (λ x. (x.0.all.height ≡ parameters_height (parameters (map parameter_of x.0.all.nodes.items)))
+    ensures height { IfOk result (λ x. (x.0.all.height ≡
+        parameters_height (parameters (map parameter_of x.0.all.nodes.items)))
         × (x.0.all.height ≤ k)) }
     ensures scope { IfOk result (λ x. scope.new
         ≡ scope.old ++ parameters_add (parameters (map parameter_of x.0.all.nodes.items))) }
@@ -74,7 +75,8 @@ pub(crate) fn listed_parameters<'a>(
     requires { k < 2 ^ 32 }
     ensures reads { Gives (λ x. (map parameter_of x.all.nodes.items, x.variadic))
         (spec.listed_parameters k (parsers k) scope.old tokens.now) result }
-    ensures height { IfOk result (λ x. (x.0.all.height ≡ parameters_height (parameters (map parameter_of x.0.all.nodes.items)))
+    ensures height { IfOk result (λ x. (x.0.all.height ≡
+        parameters_height (parameters (map parameter_of x.0.all.nodes.items)))
         × (x.0.all.height ≤ k)) }
     ensures scope { IfOk result (λ x. scope.new
         ≡ scope.old ++ parameters_add (parameters (map parameter_of x.0.all.nodes.items))) }

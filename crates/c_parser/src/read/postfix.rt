@@ -209,7 +209,8 @@ fn arguments<'a>(
     tokens: &'a [Token],
 ) -> Result<(Parts<Expr>, &'a [Token]), Fault<'a>>
     requires { k < 2 ^ 32 }
-    ensures reads { Gives (λ x. exprs (map expr_of x.nodes.items)) (spec.arguments k (parsers k) scope.old tokens.now) result }
+    ensures reads { Gives (λ x. exprs (map expr_of x.nodes.items))
+        (spec.arguments k (parsers k) scope.old tokens.now) result }
     ensures height { IfOk result (λ x. (x.0.height ≡ exprs_height (exprs (map expr_of x.0.nodes.items)))
         × (x.0.height ≤ k)) }
     ensures scope { IfOk result (λ x. scope.new ≡ scope.old ++ exprs_add (exprs (map expr_of x.0.nodes.items))) }
@@ -291,7 +292,8 @@ fn listed_arguments<'a>(
     tokens: &'a [Token],
 ) -> Result<(Parts<Expr>, &'a [Token]), Fault<'a>>
     requires { k < 2 ^ 32 }
-    ensures reads { Gives (λ x. (map expr_of x.nodes.items, false)) (spec.listed_arguments k (parsers k) scope.old tokens.now)
+    ensures reads { Gives (λ x. (map expr_of x.nodes.items, false))
+        (spec.listed_arguments k (parsers k) scope.old tokens.now)
         result }
     ensures height { IfOk result (λ x. (x.0.height ≡ exprs_height (exprs (map expr_of x.0.nodes.items)))
         × (x.0.height ≤ k)) }

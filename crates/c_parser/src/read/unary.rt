@@ -113,7 +113,8 @@ fn type_measure<'a>(
     tokens: &'a [Token],
 ) -> Result<(Part<Expr>, &'a [Token]), Fault<'a>>
     requires { k < 2 ^ 32 }
-    ensures reads { Gives (λ x. expr_of x.node.value) (spec.type_measure k (parsers k) scope.old operator pos tokens.now) result }
+    ensures reads { Gives (λ x. expr_of x.node.value)
+        (spec.type_measure k (parsers k) scope.old operator pos tokens.now) result }
     ensures height { IfOk result (λ x. (x.0.height ≡ height (expr_of x.0.node.value)) × (x.0.height ≤ k + 1)) }
     ensures scope { IfOk result (λ x. scope.new ≡ scope.old ++ expr_adds (expr_of x.0.node.value)) }
 {
@@ -134,7 +135,8 @@ fn size_behind_paren<'a>(
     tokens: &'a [Token],
 ) -> Result<(Part<Expr>, &'a [Token]), Fault<'a>>
     requires { k < 2 ^ 32 }
-    ensures reads { Gives (λ x. expr_of x.node.value) (spec.size_behind_paren k (parsers k) scope.old pos tokens.now) result }
+    ensures reads { Gives (λ x. expr_of x.node.value)
+        (spec.size_behind_paren k (parsers k) scope.old pos tokens.now) result }
     ensures height { IfOk result (λ x. (x.0.height ≡ height (expr_of x.0.node.value)) × (x.0.height ≤ k + 1)) }
     ensures scope { IfOk result (λ x. scope.new ≡ scope.old ++ expr_adds (expr_of x.0.node.value)) }
 {
@@ -268,7 +270,8 @@ fn text<'a>(
     tokens: &'a [Token],
 ) -> Result<(Part<Expr>, &'a [Token]), Fault<'a>>
     requires { k < 2 ^ 32 }
-    ensures reads { Gives (λ x. expr_of x.node.value) (spec.text k (parsers k) scope.old pos units.now wide tokens.now) result }
+    ensures reads { Gives (λ x. expr_of x.node.value)
+        (spec.text k (parsers k) scope.old pos units.now wide tokens.now) result }
     ensures height { IfOk result (λ x. (x.0.height ≡ height (expr_of x.0.node.value)) × (x.0.height ≤ k + 1)) }
     ensures scope { IfOk result (λ x. scope.new ≡ scope.old ++ expr_adds (expr_of x.0.node.value)) }
 {
