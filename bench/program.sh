@@ -8,12 +8,15 @@ top=$(dirname "$(dirname "$(readlink -f "$0")")")
 folder=$1
 shift
 
-"$top/tools/build_crates.sh" "$top" "$@"
+crates=$("$top/tools/needed_crates.sh" "$top" "$@")
+# shellcheck disable=SC2086 # one word a crate
+"$top/tools/build_crates.sh" "$top" $crates
 mkdir -p "$folder/crates/program/src"
 cat >"$folder/crates/program/src/main.rt"
-cp "$top/HANDLES" "$top/crates.txt" "$folder"
-echo "program: $*" >>"$folder/crates.txt"
-for crate in $("$top/tools/needed_crates.sh" "$top" "$@"); do
+cp "$top/HANDLES" "$folder"
+echo "program: $*" >"$folder/crates.txt"
+for crate in $crates; do
+  grep "^$crate:" "$top/crates.txt" >>"$folder/crates.txt"
   tar -C "$top/crates" --exclude=out -cf - "$crate" | tar -C "$folder/crates" -xf -
 done
 "$top/tools/build_crates.sh" "$folder" program
