@@ -1,14 +1,17 @@
+//! What a kind makes of an exact integer.
 ghost use Rattle.std.specs.Prelude.{◌≡◌, ◌^◌, ◌<◌, pos, false, IfOk, Ok};
 ghost use Rattle.acc_num.specs.Kinds.{is_signed};
 ghost use Rattle.acc_num.specs.Numbers.{InRange, value_of};
 
 use crate::fault::NumFault;
 use crate::kind::{IntKind, greatest, is_signed, least, width};
-use crate::power::power;
+use crate::power::power_of_two;
 
-/// What the kind makes of an exact integer.
+/// The exact integer in the kind: itself where it is in range, else modulo 2^N without a sign (6.2.5p9).
+///
+/// `Overflow` comes exactly where the kind has a sign and the integer is out of range (6.5p5).
 #[tactic(auto, unfolding(crate::specs::Numbers::value_of))]
-pub fn taken(kind: IntKind, exact: i128) -> Result<i128, NumFault>
+pub fn represent(kind: IntKind, exact: i128) -> Result<i128, NumFault>
     ensures value { result ≡ value_of kind exact }
     ensures in_range { IfOk result (λ value. InRange kind value) }
 {
@@ -18,15 +21,15 @@ pub fn taken(kind: IntKind, exact: i128) -> Result<i128, NumFault>
     if is_signed(kind) {
         return Err(NumFault::Overflow);
     }
-    Ok(exact.rem_euclid(power(width(kind))))
+    Ok(exact.rem_euclid(power_of_two(width(kind))))
 }
 
-/// What an unsigned kind makes of an integer that may need 128 bits.
+/// An integer that may need 128 bits in a kind without a sign: modulo 2^N (6.2.5p9).
 #[tactic(auto, unfolding(crate::specs::Numbers::value_of))]
-pub fn wrapped(kind: IntKind, exact: u128) -> i128
+pub fn wrap(kind: IntKind, exact: u128) -> i128
     requires { is_signed kind ≡ false }
     ensures value { Ok result ≡ value_of kind (pos exact) }
     ensures in_range { InRange kind result }
 {
-    (exact % power(width(kind)) as u128) as i128
+    (exact % power_of_two(width(kind)) as u128) as i128
 }
