@@ -7,11 +7,10 @@ shift
 log=$(mktemp)
 trap 'rm -f "$log"' EXIT
 
-# a program is run too, on no input, whatever its status then is
+# a program is run too, on no input; where that ends with another status than 0, it is proved still
 build() {
   if [ -f src/main.rt ]; then
-    rm -f "out/$1"
-    rt run </dev/null || [ -x "out/$1" ]
+    rt run </dev/null || { rt check && [ -x "out/$1" ]; }
   else
     rt lib
   fi
