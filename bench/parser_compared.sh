@@ -50,10 +50,14 @@ GCC = ['gcc', '-fsyntax-only', '-std=c11', '-pedantic-errors', '-fmax-errors=0',
 CLANG = ['clang', '-fsyntax-only', '-std=c11', '-pedantic-errors', '-ferror-limit=0', '-Wno-newline-eof', '-xc', '-']
 SYNTAX = re.compile(r'expected (?!.* but )|unknown type name|type name requires|extraneous|unexpected')
 
-# Differences that are known, each with the first error of both compilers by which it is recognized. Behind that error,
-# which is none of syntax, they take the tokens that follow for something else than they are.
+# Differences that are known, by name, each with the beginning of the units that have it.
+#
+# T is declared anew here as a function that returns an array, which is an error of types alone. Behind it gcc refuses
+# the brace of the body, and clang takes T for the typedef name that it was.
 KNOWN = {
-    'a function that returns an array': re.compile('.*function (returning an array|cannot return array type)'),
+    'a typedef name declared anew as a function that returns an array':
+        'typedef int T ; int a , b , c , d ; const struct s ( ( T ( ) ) [ sizeof ( union s { int const * a , g [ 1 ] ; '
+        'int g , g ; int h ; } ( int ( a ) [ 1 ] , const int k [ 1 ] ) ) ] ) [ a ] { {',
 }
 
 
@@ -77,8 +81,7 @@ for unit, answer in zip(units, answers, strict=True):
         there += int(answer) in columns
         differs = not columns
     if differs:
-        names = [name for name, first in KNOWN.items()
-                 if answer == 'taken' and all(first.match(each[0][1]) for each in found)]
+        names = [name for name, beginning in KNOWN.items() if answer == 'taken' and unit.startswith(beginning)]
         known += bool(names)
         others += not names
         print(f'{unit}\n    parse: {answer}\n    gcc: {found[0][:1]}\n    clang: {found[1][:1]}')
