@@ -1,0 +1,5 @@
+pub mod Tree
+pub mod TreeUnit
+pub mod View
+pub mod ViewUnit
+pub mod Ids

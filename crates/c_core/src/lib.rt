@@ -16,5 +16,5 @@ pub use form::{Content, Form, Scalar};
 pub use function::{CoreFunction, Parameter, Range};
 pub use named::{FunctionName, LIBRARY_FUNCTIONS, ObjectName};
 pub use operator::{By, Change, Comparison, Operator, Relation, Stride};
-pub use statement::{Case, CoreStatement, Local, StatementNode};
+pub use statement::{Case, CoreStatement, Local, CoreAction};
 pub use static_object::{Address, Bounds, CoreStatic, Mark, Seal, StaticItem, StaticValue};

@@ -22,13 +22,13 @@ pub struct Case {
 #[derive(Drop)]
 pub struct CoreStatement {
     pub pos: Pos,
-    pub node: StatementNode,
+    pub action: CoreAction,
 }
 
 /// What a checked statement does. Each expression in it is a full expression (6.8p4).
 #[cycle(body)]
 #[derive(Drop)]
-pub enum StatementNode {
+pub enum CoreAction {
     /// The objects are made in order, the items run, and the objects die, the last made first (6.2.4p6, 6.8.2).
     Block(Vec<Local>, Vec<CoreStatement>),
     /// The object in a slot is filled with that many zero bytes, before the items of its initializer (6.7.9p21).
