@@ -142,7 +142,7 @@ module _ (old new : Types) (grown : KeepsTypes old new) where
 
   mutual
     pub action_kept : (action : a.CoreAction) → ActionIn old action → action_of new action ≡ action_of old action
-    action_kept (a.If' test _ pos then _ pos2 else) h = λ i. unit.If (core_kept test h.0 i) (Stands pos (action_kept then h.1 i)) (Stands pos2 (action_kept else h.2 i))
+    action_kept (a.If' test _ pos first _ pos2 second) h = λ i. unit.If (core_kept test h.0 i) (Stands pos (action_kept first h.1 i)) (Stands pos2 (action_kept second h.2 i))
     action_kept (a.While' test _ pos turn) h = λ i. unit.While (core_kept test h.0 i) (Stands pos (action_kept turn h.1 i))
     action_kept (a.Do' _ pos turn test) h = λ i. unit.Do (Stands pos (action_kept turn h.0 i)) (core_kept test h.1 i)
     action_kept (a.For' test step _ pos turn) h = λ i. unit.For (core_kept test h.0 i) (core_kept step h.1 i) (Stands pos (action_kept turn h.2 i))
@@ -171,7 +171,7 @@ module _ (old new : Types) (grown : KeepsTypes old new) where
 
   mutual
     pub action_in_kept : (action : a.CoreAction) → ActionIn old action → ActionIn new action
-    action_in_kept (a.If' test _ pos then _ pos2 else) h = (core_in_kept test h.0, action_in_kept then h.1, action_in_kept else h.2)
+    action_in_kept (a.If' test _ pos first _ pos2 second) h = (core_in_kept test h.0, action_in_kept first h.1, action_in_kept second h.2)
     action_in_kept (a.While' test _ pos turn) h = (core_in_kept test h.0, action_in_kept turn h.1)
     action_in_kept (a.Do' _ pos turn test) h = (action_in_kept turn h.0, core_in_kept test h.1)
     action_in_kept (a.For' test step _ pos turn) h = (core_in_kept test h.0, core_in_kept step h.1, action_in_kept turn h.2)

@@ -62,7 +62,7 @@ abbrev mutual
   ActionIn types (a.InitializeBytes slot at bytes) = Unit {0}
   ActionIn types (a.Seal slot at len) = Unit {0}
   ActionIn types (a.Evaluate core) = CoreIn types core
-  ActionIn types (a.If' test _ pos then _ pos2 else) = CoreIn types test × ActionIn types then × ActionIn types else
+  ActionIn types (a.If' test _ pos first _ pos2 second) = CoreIn types test × ActionIn types first × ActionIn types second
   ActionIn types (a.While' test _ pos turn) = CoreIn types test × ActionIn types turn
   ActionIn types (a.Do' _ pos turn test) = ActionIn types turn × CoreIn types test
   ActionIn types (a.For' test step _ pos turn) = CoreIn types test × CoreIn types step × ActionIn types turn

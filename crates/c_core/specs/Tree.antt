@@ -46,7 +46,7 @@ mutual
     Difference : (size : ℕ) (left right : Core) → Node
     AndAlso : (left right : Core) → Node
     OrElse : (left right : Core) → Node
-    Cond : (test then else : Core) → Node
+    Cond : (test first second : Core) → Node
     Comma : (left right : Core) → Node
     Assign : (scalar : Scalar) (place value : Core) → Node
     AssignWhole : (size : ℕ) (place value : Core) → Node

@@ -26,7 +26,7 @@ mutual
     InitializeBytes : (slot at : ℕ) (bytes : List ℕ) → Action
     SealBytes : (slot at len : ℕ) → Action
     Evaluate : (core : Core) → Action
-    If : (test : Core) (then else : Statement) → Action
+    If : (test : Core) (first second : Statement) → Action
     While : (test : Core) (turn : Statement) → Action
     Do : (turn : Statement) (test : Core) → Action
     For : (test step : Core) (turn : Statement) → Action

@@ -22,8 +22,8 @@ abbrev mutual
   action_of types (n.InitializeBytes slot at bytes) = tree.InitializeBytes slot at bytes.items
   action_of types (n.Seal slot at len) = tree.SealBytes slot at len
   action_of types (n.Evaluate core) = tree.Evaluate (core_of types core)
-  action_of types (n.If' test _ pos then _ pos2 else) =
-      tree.If (core_of types test) (Stands pos (action_of types then)) (Stands pos2 (action_of types else))
+  action_of types (n.If' test _ pos first _ pos2 second) =
+      tree.If (core_of types test) (Stands pos (action_of types first)) (Stands pos2 (action_of types second))
   action_of types (n.While' test _ pos turn) = tree.While (core_of types test) (Stands pos (action_of types turn))
   action_of types (n.Do' _ pos turn test) = tree.Do (Stands pos (action_of types turn)) (core_of types test)
   action_of types (n.For' test step _ pos turn) =

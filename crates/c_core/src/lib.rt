@@ -1,11 +1,13 @@
 //! The core tree of a unit: what the checker makes of its syntax, and what its meaning and its code are made of.
 #![tactic(auto)]
 
+pub mod constant;
 pub mod expression;
 pub mod fault;
 pub mod form;
 pub mod function;
 pub mod named;
+pub mod number;
 pub mod operator;
 pub mod statement;
 pub mod static_object;
@@ -16,5 +18,5 @@ pub use form::{Content, Form, Scalar};
 pub use function::{CoreFunction, Parameter, Range};
 pub use named::{FunctionName, LIBRARY_FUNCTIONS, ObjectName};
 pub use operator::{By, Change, Comparison, Operator, Relation, Stride};
-pub use statement::{Case, CoreStatement, Local, CoreAction};
+pub use statement::{Case, CoreAction, CoreStatement, Local};
 pub use static_object::{Address, Bounds, CoreStatic, Mark, Seal, StaticItem, StaticValue};
