@@ -6,3 +6,8 @@ pub mod Ids
 pub mod Forms
 pub mod Operations
 pub mod Constant
+pub mod Types
+pub mod Named
+pub mod Typed
+pub mod Calls
+pub mod TypedUnit
