@@ -1,5 +1,5 @@
 -- Each id in a core tree is one of the table's.
-use Rattle.std.specs.Prelude.{ℕ, ◌<◌, All}
+use Rattle.std.specs.Prelude.{◌<◌, List, [], ◌∷◌}
 use Rattle.c_types.specs.declared.shape.TypeId.{TypeId}
 use Rattle.c_types.specs.Types.{Types, count_of}
 use Rattle.c_core.specs.declared.expression.CoreNode as n
@@ -82,3 +82,7 @@ StatementIn types statement = ActionIn types statement.action
 
 abbrev pub FunctionIn : Types → f.CoreFunction → Type 0
 FunctionIn types function = IdIn types function.of × StatementIn types function.body
+
+abbrev pub FunctionsIn : Types → List f.CoreFunction → Type 0
+FunctionsIn types [] = Unit {0}
+FunctionsIn types (first ∷ rest) = FunctionIn types first × FunctionsIn types rest

@@ -11,3 +11,4 @@ pub mod Named
 pub mod Typed
 pub mod Calls
 pub mod TypedUnit
+pub mod Inner

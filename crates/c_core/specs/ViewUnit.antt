@@ -11,7 +11,7 @@ use Rattle.c_core.specs.declared.static_object.StaticItem as i
 use Rattle.c_core.specs.declared.static_object.StaticValue as v
 use Rattle.c_core.specs.declared.static_object.StaticValue.TheVariants as value
 use Rattle.c_core.specs.View.{core_of}
-use Rattle.c_core.specs.TreeUnit.{Statement, Stands, Action, Statements, NoStatement, MoreStatements, Parameter, Definition, StaticValue, StaticNumber, StaticNull, StaticAddress, StaticFunction, StaticBytes, StaticItem, Static}
+use Rattle.c_core.specs.TreeUnit.{Statement, Stands, Action, Statements, NoStatement, MoreStatements, Parameter, Definition, StaticValue, StaticNumber, StaticNull, StaticAddress, StaticFunction, StaticBytes, StaticItem, Static, Program}
 use Rattle.c_core.specs.TreeUnit as tree
 
 abbrev mutual
@@ -74,4 +74,18 @@ static_of static = record {
   size = static.size;
   items = map item_of static.items.items;
   seals = static.seals.items;
+}
+
+-- a unit as the program holds it
+pub record Parts : Type 0 where
+  pub types : Types
+  pub functions : List f.CoreFunction
+  pub statics : List o.CoreStatic
+
+-- the unit with its types as trees
+abbrev pub program_of : Parts → Program
+program_of parts = record {
+  types = parts.types;
+  functions = map (definition_of parts.types) parts.functions;
+  statics = map static_of parts.statics;
 }

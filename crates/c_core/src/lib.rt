@@ -1,7 +1,8 @@
 //! The core tree of a unit: what the checker makes of its syntax, and what its meaning and its code are made of.
 #![tactic(auto)]
 
-pub mod constant;
+pub mod constant_value;
+pub mod core_unit;
 pub mod expression;
 pub mod fault;
 pub mod form;
@@ -12,6 +13,8 @@ pub mod operator;
 pub mod statement;
 pub mod static_object;
 
+pub use constant_value::constant;
+pub use core_unit::Core;
 pub use expression::{CoreExpr, CoreNode};
 pub use fault::{ConstFault, TypeFault};
 pub use form::{Content, Form, Scalar};
