@@ -2,7 +2,7 @@
 use Rattle.std.proofs.Common.{◌≡◌, ℕ, refl, ap, ◌∙◌, arith}
 use Rattle.std.specs.Prelude.{Bool, true, false, not, ◌&&◌, ◌||◌, ◌==◌, Option, Some, None}
 use Rattle.c_types.specs.declared.shape.Quals.{Quals}
-use Rattle.c_types.specs.CType.{CType, CTypes, Bare, Plain, Array, Basic', Pointer, Function, Compound, Enumerated, Nil, Cons, number_of}
+use Rattle.c_types.specs.CType.{CType, CTypes, Bare, Plain, Array, BasicType, Pointer, Function, Compound, Enumerated, Nil, Cons, number_of}
 use Rattle.c_types.specs.Compatible.{agree, bare_agree, all_agree, same_bool, same_quals, lengths_agree}
 
 same_number : (m n : ℕ) → (m == n) ≡ (n == m)
@@ -51,7 +51,7 @@ mutual
   agree-sym (Array t m) (Plain y r) strict = refl
 
   bare_agree-sym : (x y : Bare) → bare_agree x y ≡ bare_agree y x
-  bare_agree-sym (Basic' a) (Basic' b) = same_number (number_of a) (number_of b)
+  bare_agree-sym (BasicType a) (BasicType b) = same_number (number_of a) (number_of b)
   bare_agree-sym (Compound m) (Compound n) = same_number m n
   bare_agree-sym (Enumerated m) (Enumerated n) = same_number m n
   bare_agree-sym (Pointer t) (Pointer u) = agree-sym t u true
@@ -77,7 +77,7 @@ mutual
   agree-own (Array t m) strict = both _ _ true true (lengths-own m) (agree-own t strict)
 
   pub bare_agree-own : (x : Bare) → bare_agree x x ≡ true
-  bare_agree-own (Basic' a) = own_number (number_of a)
+  bare_agree-own (BasicType a) = own_number (number_of a)
   bare_agree-own (Compound m) = own_number m
   bare_agree-own (Enumerated m) = own_number m
   bare_agree-own (Pointer t) = agree-own t true

@@ -9,10 +9,10 @@ use Rattle.c_types.specs.declared.parts.Signature.{Signature}
 use Rattle.c_types.specs.declared.parts.CompoundType.{CompoundType}
 use Rattle.c_types.specs.declared.shape.TypeId.{TypeId}
 use Rattle.c_types.specs.Types.{Types, count_of}
-use Rattle.c_types.specs.CType.{CType, number_of, Plain, Basic', type_of, type_with, all_types, unqualified}
+use Rattle.c_types.specs.CType.{CType, number_of, Plain, BasicType, type_of, type_with, all_types, no_quals}
 use Rattle.c_types.specs.Layouts.{basic_layout, layout_of}
 use Rattle.c_types.specs.Shapes.{RefersBelow, no_entry, entry_at}
-use Rattle.c_types.specs.Inner.{IsSound, KeepsLayout, HasMembersIn, basics, entry_of, parts_of, compound_of}
+use Rattle.c_types.specs.Inner.{IsSound, KeepsLayout, CountsParts, HasMembersIn, basics, entry_of, parts_of, compound_of}
 use Rattle.c_types.proofs.Showing.{shows}
 use Rattle.c_types.proofs.Sound.{begins_there}
 
@@ -34,10 +34,17 @@ basic_at (suc (suc (suc (suc (suc (suc (suc (suc (suc (suc (suc (suc zero)))))))
 basic_at (suc (suc (suc (suc (suc (suc (suc (suc (suc (suc (suc (suc (suc n))))))))))))) h = absurd (omega arith)
 
 abbrev pub fresh : Types
-fresh = record { made = basics; functions = []; compounds = [] }
+fresh = record { made = basics; functions = []; compounds = []; enumerations = 0 }
 
 -- the fields of a new table stand for it
-pub fresh_is : (made : List Made) (functions : List Signature) (compounds : List CompoundType) → made ≡ basics → functions ≡ [] → compounds ≡ [] → record { made = made; functions = map parts_of functions; compounds = map compound_of compounds } ≡ fresh
+pub fresh_is : (made : List Made) (functions : List Signature) (compounds : List CompoundType) → made ≡ basics →
+    functions ≡ [] → compounds ≡ [] →
+    record {
+      made = made;
+      functions = map parts_of functions;
+      compounds = map compound_of compounds;
+      enumerations = 0;
+    } ≡ fresh
 fresh_is made functions compounds m f c = cc
 
 pub sound-fresh : IsSound fresh
@@ -51,13 +58,26 @@ sound-fresh =
           let e = basic_at id.0 h in
           let shown = shows fresh id h (refers id.0 h) in
           layout id e.0 e.1 shown.stands_for;
+      parts = λ id h.
+          let e = basic_at id.0 h in
+          let shown = shows fresh id h (refers id.0 h) in
+          parts id e.0 e.1 shown.stands_for;
       members = All-nil (HasMembersIn fresh);
     }
   where
     layout : (id : TypeId) (basic : Basic) → entry_at fresh id.0 ≡ entry_of basic → type_of fresh id ≡ type_with [] (all_types fresh) (entry_at fresh id.0).shape (entry_at fresh id.0).quals → KeepsLayout (entry_at fresh id.0).shape (entry_at fresh id.0).layout (type_of fresh id) []
     layout id basic e stands =
-        let type : type_of fresh id ≡ Plain (Basic' basic) unqualified = stands ∙ ap (λ (m : Made). type_with [] (all_types fresh) m.shape m.quals) e in
+        let type : type_of fresh id ≡ Plain (BasicType basic) no_quals = stands ∙ ap (λ (m : Made). type_with [] (all_types fresh) m.shape m.quals) e in
         subst (λ (m : Made). KeepsLayout m.shape m.layout (type_of fresh id) []) (sym e) (record { layout = subst (λ (t : CType). basic_layout basic ≡ layout_of t []) (sym type) refl; own = tt })
+
+    parts : (id : TypeId) (basic : Basic) → entry_at fresh id.0 ≡ entry_of basic →
+        type_of fresh id ≡ type_with [] (all_types fresh) (entry_at fresh id.0).shape (entry_at fresh id.0).quals →
+        CountsParts (entry_at fresh id.0).parts (type_of fresh id)
+    parts id basic e stands =
+        let type : type_of fresh id ≡ Plain (BasicType basic) no_quals =
+        stands ∙ ap (λ (m : Made). type_with [] (all_types fresh) m.shape m.quals) e in
+        subst (λ (m : Made). CountsParts m.parts (type_of fresh id)) (sym e)
+        (subst (λ (t : CType). CountsParts 1 t) (sym type) (record { count = refl; bound = omega arith }))
 
 place_below : (basic : Basic) → number_of basic < 13
 place_below basic = grind arith
@@ -78,7 +98,7 @@ first_entry b.LongLong = refl
 first_entry b.ULongLong = refl
 
 -- each table has the basic types in the first places
-pub basic_there : (types : Types) (basic : Basic) (id : TypeId) → IsSound types → id.0 ≡ number_of basic → (id.0 < count_of types) × (type_of types id ≡ Plain (Basic' basic) unqualified)
+pub basic_there : (types : Types) (basic : Basic) (id : TypeId) → IsSound types → id.0 ≡ number_of basic → (id.0 < count_of types) × (type_of types id ≡ Plain (BasicType basic) no_quals)
 basic_there types basic id sound place =
     let small : id.0 < 13 = omega (arith, place, place_below basic) in
     let below : id.0 < count_of types = omega (arith, begins_there types sound, small) in

@@ -1,10 +1,14 @@
+-- The lemmas of the crate, and the answers to single functions in folders of their names.
 pub mod CompatibleLaws
+pub mod Completing
+pub mod Composing
 pub mod CompositeLaws
 pub mod Composites
-pub mod Composing
+pub mod Counting
 pub mod Ends
 pub mod Fresh
 pub mod Grows
+pub mod Kept
 pub mod Members
 pub mod Parameters
 pub mod Qualifying
@@ -12,4 +16,5 @@ pub mod Showing
 pub mod Sound
 pub mod WithBody
 pub mod WithCompound
+pub mod WithEnumeration
 pub mod WithFunction

@@ -9,22 +9,22 @@ use Rattle.c_types.specs.declared.shape.Quals.{Quals}
 use Rattle.c_types.specs.declared.shape.TypeId.{TypeId}
 use Rattle.c_types.specs.declared.parts.Made.{Made}
 use Rattle.c_types.specs.Types.{Types, FunctionParts, count_of}
-use Rattle.c_types.specs.CType.{CType, Plain, Array, Pointer, grown, type_with, type_at, types_at, function_at, all_types, void}
+use Rattle.c_types.specs.CType.{CType, Plain, Array, Pointer, types_from, type_with, type_at, types_at, function_at, all_types, void}
 use Rattle.c_types.specs.Shapes.{RefersBelow, ShowsType, entry_at, no_entry}
-use Rattle.c_types.proofs.Grows.{length-grown}
+use Rattle.c_types.proofs.Grows.{length-types_from}
 
-pub grown-append : (functions : List FunctionParts) (types : List CType) (a b : List Made) → grown functions types (a ++ b) ≡ grown functions (grown functions types a) b
-unfolding grown
-grown-append functions types [] b = refl
-grown-append functions types (next ∷ rest) b = grown-append functions (types ++ type_with functions types next.shape next.quals ∷ []) rest b
+pub types_from-append : (functions : List FunctionParts) (types : List CType) (a b : List Made) → types_from functions types (a ++ b) ≡ types_from functions (types_from functions types a) b
+unfolding types_from
+types_from-append functions types [] b = refl
+types_from-append functions types (next ∷ rest) b = types_from-append functions (types ++ type_with functions types next.shape next.quals ∷ []) rest b
 
 -- the types that were there stand in front
-pub grown-front : (functions : List FunctionParts) (types : List CType) (made : List Made) → (more : List CType) × (grown functions types made ≡ types ++ more)
-unfolding grown
-grown-front functions types [] = ([], sym (append-nil types))
-grown-front functions types (next ∷ rest) =
+pub types_from-front : (functions : List FunctionParts) (types : List CType) (made : List Made) → (more : List CType) × (types_from functions types made ≡ types ++ more)
+unfolding types_from
+types_from-front functions types [] = ([], sym (append-nil types))
+types_from-front functions types (next ∷ rest) =
     let w = type_with functions types next.shape next.quals in
-    let more = grown-front functions (types ++ w ∷ []) rest in
+    let more = types_from-front functions (types ++ w ∷ []) rest in
     (w ∷ more.0, more.1 ∙ append_assoc types (w ∷ []) more.0)
 
 types_at-front : (types more : List CType) (ids : List TypeId) → All (λ (p : TypeId). p.0 < length types) ids → types_at (types ++ more) ids ≡ types_at types ids
@@ -50,9 +50,9 @@ type_with-front table types more (s.Function number) quals h = ap (λ f. Plain f
 type_with-front table types more (s.Compound number) quals h = refl
 type_with-front table types more (s.Enumerated number) quals h = refl
 
-grown-next : (f : List FunctionParts) (first : List CType) (e : Made) (after : List Made) → grown f first (e ∷ after) ≡ grown f (first ++ type_with f first e.shape e.quals ∷ []) after
-unfolding grown
-grown-next f first e after = refl
+types_from-next : (f : List FunctionParts) (first : List CType) (e : Made) (after : List Made) → types_from f first (e ∷ after) ≡ types_from f (first ++ type_with f first e.shape e.quals ∷ []) after
+unfolding types_from
+types_from-next f first e after = refl
 
 -- an id stands for what its entry says
 pub shows : (table : Types) (id : TypeId) → id.0 < count_of table → RefersBelow table id.0 (entry_at table id.0).shape → ShowsType table id (entry_at table id.0).shape
@@ -63,12 +63,12 @@ shows table id below refers =
     let after = drop (id.0 + 1) table.made in
     let split : table.made ≡ before ++ e ∷ after =
     sym (take-append-drop id.0 table.made) ∙ ap (λ r. before ++ r) (drop_more table.made id.0 no_entry below) in
-    let first = grown f [] before in
+    let first = types_from f [] before in
     let own = type_with f first e.shape e.quals in
-    let rest = grown-front f (first ++ own ∷ []) after in
-    let len : length first ≡ id.0 = omega (arith, length-grown f [] before, length-take-le id.0 table.made (omega arith)) in
+    let rest = types_from-front f (first ++ own ∷ []) after in
+    let len : length first ≡ id.0 = omega (arith, length-types_from f [] before, length-take-le id.0 table.made (omega arith)) in
     let all : all_types table ≡ first ++ own ∷ rest.0 =
-    ap (grown f []) split ∙ grown-append f [] before (e ∷ after) ∙ grown-next f first e after ∙ rest.1 ∙ append_assoc first (own ∷ []) rest.0 in
+    ap (types_from f []) split ∙ types_from-append f [] before (e ∷ after) ∙ types_from-next f first e after ∙ rest.1 ∙ append_assoc first (own ∷ []) rest.0 in
     let same = type_with-front table first (own ∷ rest.0) e.shape e.quals (subst (λ n. RefersBelow table n e.shape) (sym len) refers) in
     record {
       stands_for = ap (λ ts. type_at ts id) all ∙ get_or_at first own rest.0 void id.0 len ∙ sym same ∙ ap (λ ts. type_with f ts e.shape e.quals) (sym all);

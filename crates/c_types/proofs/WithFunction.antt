@@ -1,5 +1,5 @@
 -- One more function type among the parts changes nothing of the types that are there.
-use Rattle.std.proofs.Common.{◌≡◌, ℕ, zero, suc, ◌<◌, List, [], ◌∷◌, ◌++◌, length, All, map, refl, ap, sym, subst, ◌∙◌, slice_get}
+use Rattle.std.proofs.Common.{◌≡◌, ℕ, zero, suc, ◌<◌, ◌≤◌, List, [], ◌∷◌, ◌++◌, length, All, map, refl, ap, sym, subst, ◌∙◌, slice_get}
 use Rattle.std.specs.Prelude.{false, Option, Some, None, Result, Ok, Err, is_ok, is_err, if◌then◌else◌, IsSomeAnd, IsSome}
 use Rattle.std.proofs.lemmas.List.{map-append, length-map}
 use Rattle.std.proofs.lemmas.List.Elements.{All-head, All-tail, All-from_get_or}
@@ -11,13 +11,15 @@ use Rattle.c_types.specs.declared.parts.Made.{Made}
 use Rattle.c_types.specs.declared.parts.Signature.{Signature}
 use Rattle.c_types.specs.declared.parts.CompoundType.{CompoundType}
 use Rattle.c_types.specs.Types.{Types, FunctionParts, count_of}
-use Rattle.c_types.specs.CType.{CType, Plain, grown, Function, type_with, type_at, types_at, function_at, all_types, type_of, unqualified}
+use Rattle.c_types.specs.CType.{CType, Plain, types_from, Function, type_with, type_at, types_at, function_at, all_types, type_of, no_quals}
 use Rattle.c_types.specs.Shapes.{RefersBelow, entry_at, no_entry}
 use Rattle.c_types.specs.Functions.{with_function}
-use Rattle.c_types.specs.Inner.{IsSound, KeepsLayout, parts_of, compound_of}
+use Rattle.c_types.specs.PartCount.{function_count, part_count, most_parts}
+use Rattle.c_types.specs.Structures.{typed_structure, structures_of}
+use Rattle.c_types.specs.Inner.{IsSound, KeepsLayout, CountsParts, parts_of, compound_of}
 use Rattle.c_types.specs.Layouts.{layout_of}
 use Rattle.c_types.specs.Making.{MakesType, with_made}
-use Rattle.c_types.proofs.Grows.{makes-with_made}
+use Rattle.c_types.proofs.Grows.{adds-with_made, makes}
 use Rattle.c_types.proofs.Sound.{sound-with_made}
 
 slice_get-front : (fs : List FunctionParts) (f : FunctionParts) (n : ℕ) → IsSome (slice_get fs n) → slice_get (fs ++ f ∷ []) n ≡ slice_get fs n
@@ -42,12 +44,12 @@ type_with-function fs f types (s.Array of len) quals h = refl
 type_with-function fs f types (s.Compound n) quals h = refl
 type_with-function fs f types (s.Enumerated n) quals h = refl
 
-grown-function : (fs : List FunctionParts) (f : FunctionParts) (types : List CType) (made : List Made) → All (λ (m : Made). HasFunction fs m.shape) made → grown (fs ++ f ∷ []) types made ≡ grown fs types made
-unfolding grown
-grown-function fs f types [] h = refl
-grown-function fs f types (next ∷ rest) h =
-    ap (λ t. grown (fs ++ f ∷ []) (types ++ t ∷ []) rest) (type_with-function fs f types next.shape next.quals (All-head (λ (m : Made). HasFunction fs m.shape) next rest h))
-    ∙ grown-function fs f (types ++ type_with fs types next.shape next.quals ∷ []) rest (All-tail (λ (m : Made). HasFunction fs m.shape) next rest h)
+types_from-function : (fs : List FunctionParts) (f : FunctionParts) (types : List CType) (made : List Made) → All (λ (m : Made). HasFunction fs m.shape) made → types_from (fs ++ f ∷ []) types made ≡ types_from fs types made
+unfolding types_from
+types_from-function fs f types [] h = refl
+types_from-function fs f types (next ∷ rest) h =
+    ap (λ t. types_from (fs ++ f ∷ []) (types ++ t ∷ []) rest) (type_with-function fs f types next.shape next.quals (All-head (λ (m : Made). HasFunction fs m.shape) next rest h))
+    ∙ types_from-function fs f (types ++ type_with fs types next.shape next.quals ∷ []) rest (All-tail (λ (m : Made). HasFunction fs m.shape) next rest h)
 
 has_function : (types : Types) (id : ℕ) (shape : Shape) → RefersBelow types id shape → HasFunction types.functions shape
 has_function types id (s.Function n) h = some (slice_get types.functions n) h
@@ -63,14 +65,18 @@ has_function types id (s.Enumerated n) h = tt
 
 pub all_types-with_function : (types : Types) (f : FunctionParts) → IsSound types → all_types (with_function types f) ≡ all_types types
 all_types-with_function types f sound =
-    grown-function types.functions f [] types.made
+    types_from-function types.functions f [] types.made
     (All-from_get_or (λ (m : Made). HasFunction types.functions m.shape) types.made no_entry (λ i h. has_function types i (entry_at types i).shape (sound.refers i h)))
 
 sound-with_function : (types : Types) (f : FunctionParts) → IsSound types → IsSound (with_function types f)
 sound-with_function types f sound = record {
   begins = sound.begins;
   refers = λ id h. refers id (entry_at types id).shape (sound.refers id h);
-  layouts = λ id h. subst (λ (all : List CType). KeepsLayout (entry_at types id.0).shape (entry_at types id.0).layout (type_at all id) types.compounds) (sym (all_types-with_function types f sound)) (sound.layouts id h);
+  layouts = λ id h. subst (λ (all : List CType). KeepsLayout (entry_at types id.0).shape (entry_at types id.0).layout
+      (type_at all id) (map (typed_structure all) types.compounds)) (sym (all_types-with_function types f sound))
+      (sound.layouts id h);
+  parts = λ id h. subst (λ (all : List CType). CountsParts (entry_at types id.0).parts (type_at all id))
+      (sym (all_types-with_function types f sound)) (sound.parts id h);
   members = sound.members;
 }
   where
@@ -84,49 +90,79 @@ sound-with_function types f sound = record {
     refers id (s.Enumerated n) h = h
 
 -- the entry of the function type whose parts come next
-abbrev pub function_entry : Types → Made
-function_entry types = record { shape = s.Function (length types.functions); quals = unqualified; layout = None }
+abbrev pub function_entry : Types → ℕ → Made
+function_entry types count =
+    record { shape = s.Function (length types.functions); quals = no_quals; layout = None; parts = count }
 
--- the table with one more function type
-abbrev pub with_function_type : Types → FunctionParts → Types
-with_function_type types f = with_made (with_function types f) (function_entry types)
+-- the table with one more function type, which has so many parts
+abbrev pub with_function_type : Types → FunctionParts → ℕ → Types
+with_function_type types f count = with_made (with_function types f) (function_entry types count)
 
 abbrev pub IsBelow : ℕ → FunctionParts → Type 0
 IsBelow n f = (f.gives.0 < n) × All (λ (p : TypeId). p.0 < n) f.parameters
 
-pub sound-with_function_type : (types : Types) (f : FunctionParts) → IsSound types → IsBelow (count_of types) f → IsSound (with_function_type types f)
-sound-with_function_type types f sound below =
+-- the count is right, and not too large
+abbrev pub Counts : Types → FunctionParts → ℕ → Type 0
+Counts types f count =
+    (count ≡ function_count (type_of types f.gives) (types_at (all_types types) f.parameters)) × (count ≤ most_parts)
+
+-- the type that the entry stands for
+last_function : (types : Types) (f : FunctionParts) → IsSound types →
+    Plain (function_at (all_types (with_function types f)) (slice_get (types.functions ++ f ∷ []) (length types.functions)))
+    no_quals
+    ≡ Plain (Function (type_of types f.gives) (types_at (all_types types) f.parameters) f.variadic) no_quals
+last_function types f sound =
+    ap (λ o. Plain (function_at (all_types (with_function types f)) o) no_quals) (slice_get-last types.functions f)
+    ∙ ap (λ (all : List CType). Plain (function_at all (Some f)) no_quals) (all_types-with_function types f sound)
+
+pub sound-with_function_type : (types : Types) (f : FunctionParts) (count : ℕ) → IsSound types →
+    IsBelow (count_of types) f → Counts types f count → IsSound (with_function_type types f count)
+sound-with_function_type types f count sound below counts =
     let last = slice_get-last types.functions f in
-    sound-with_made (with_function types f) (function_entry types) (sound-with_function types f sound)
+    let type = last_function types f sound in
+    sound-with_made (with_function types f) (function_entry types count) (sound-with_function types f sound)
     (subst (λ (o : Option FunctionParts). IsSomeAnd o (IsBelow (count_of types))) (sym last) below)
     (record {
-      layout = subst (λ (o : Option FunctionParts). None ≡ layout_of (Plain (function_at (all_types (with_function types f)) o) unqualified) types.compounds) (sym last) refl;
+      layout = ap (λ (t : CType). layout_of t (structures_of (with_function types f))) (sym type);
       own = tt;
     })
+    (record { count = counts.0 ∙ ap part_count (sym type); bound = counts.1 })
 
-pub makes-with_function_type : (types : Types) (f : FunctionParts) (id : TypeId) → IsSound types → id.0 ≡ count_of types → MakesType types (with_function_type types f) id (Plain (Function (type_of types f.gives) (types_at (all_types types) f.parameters) f.variadic) unqualified)
-makes-with_function_type types f id sound place =
+pub makes-with_function_type : (types : Types) (f : FunctionParts) (count : ℕ) (id : TypeId) → IsSound types →
+    id.0 ≡ count_of types →
+    MakesType types (with_function_type types f count) id
+    (Plain (Function (type_of types f.gives) (types_at (all_types types) f.parameters) f.variadic) no_quals)
+makes-with_function_type types f count id sound place =
     let same = all_types-with_function types f sound in
-    let made = makes-with_made (with_function types f) (with_function_type types f) id (function_entry types) refl place in
-    record {
+    let made = adds-with_made (with_function types f) id (function_entry types count) place in
+    makes types (with_function_type types f count) id _ sound
+    (record {
       is_there = made.is_there;
-      stands_for = made.stands_for
-          ∙ ap (λ o. Plain (function_at (all_types (with_function types f)) o) unqualified) (slice_get-last types.functions f)
-          ∙ ap (λ (all : List CType). Plain (function_at all (Some f)) unqualified) same;
+      stands_for = made.stands_for ∙ last_function types f sound;
       types = record {
         count = made.types.count;
         same = λ q below. made.types.same q below ∙ ap (λ (all : List CType). type_at all q) same;
       };
-      compounds = refl;
-    }
+    })
+    refl refl
 
-pub fields-with_function_type : (made made' : List Made) (fs fs' : List Signature) (cs : List CompoundType) (f : Signature) → made' ≡ made ++ (record { shape = s.Function (length fs); quals = unqualified; layout = None }) ∷ [] → fs' ≡ fs ++ f ∷ [] → record { made = made'; functions = map parts_of fs'; compounds = map compound_of cs } ≡ with_function_type (record { made = made; functions = map parts_of fs; compounds = map compound_of cs }) (parts_of f)
-fields-with_function_type made made' fs fs' cs f m p =
-    let functions : map parts_of fs' ≡ map parts_of fs ++ parts_of f ∷ [] = ap (map parts_of) p ∙ map-append parts_of fs (f ∷ []) in
+-- the fields of a table stand for the table with one more function type
+pub fields-with_function_type : (made made2 : List Made) (fs fs2 : List Signature) (cs : List CompoundType)
+    (n count : ℕ) (f : Signature) →
+    made2 ≡ made ++ (record { shape = s.Function (length fs); quals = no_quals; layout = None; parts = count }) ∷ [] →
+    fs2 ≡ fs ++ f ∷ [] →
+    record { made = made2; functions = map parts_of fs2; compounds = map compound_of cs; enumerations = n }
+    ≡ with_function_type
+    (record { made = made; functions = map parts_of fs; compounds = map compound_of cs; enumerations = n })
+    (parts_of f) count
+fields-with_function_type made made2 fs fs2 cs n count f m p =
+    let functions : map parts_of fs2 ≡ map parts_of fs ++ parts_of f ∷ [] =
+    ap (map parts_of) p ∙ map-append parts_of fs (f ∷ []) in
     let number : length (map parts_of fs) ≡ length fs = length-map fs parts_of in
     cc
 
 -- what a push that did not fail has left
-pub pushed : {E X : Type 0} (r : Result (Unit {0}) E) (xs ys zs : List X) → is_err r ≡ false → xs ≡ (if is_ok r then ys else zs) → xs ≡ ys
+pub pushed : {E X : Type 0} (r : Result (Unit {0}) E) (xs ys zs : List X) → is_err r ≡ false →
+    xs ≡ (if is_ok r then ys else zs) → xs ≡ ys
 pushed (Ok u) xs ys zs h e = e
 pushed (Err e) xs ys zs h f = cc

@@ -17,7 +17,7 @@ mutual
     Array : (of : CType) (len : Option ℕ) → CType
 
   pub data Bare : Type 0 where
-    Basic' : (basic : Basic) → Bare
+    BasicType : (basic : Basic) → Bare
     Pointer : (to : CType) → Bare
     Function : (gives : CType) (parameters : CTypes) (variadic : Bool) → Bare
     Compound : (number : ℕ) → Bare
@@ -27,11 +27,11 @@ mutual
     Nil : CTypes
     Cons : (first : CType) (rest : CTypes) → CTypes
 
-abbrev pub unqualified : Quals
-unqualified = record { constant = false; volatile = false; restricted = false }
+abbrev pub no_quals : Quals
+no_quals = record { constant = false; volatile = false; restricted = false }
 
 abbrev pub void : CType
-void = Plain (Basic' Void) unqualified
+void = Plain (BasicType Void) no_quals
 
 -- the type at an id, among the types that were made
 abbrev pub type_at : List CType → TypeId → CType
@@ -43,12 +43,12 @@ types_at types (id ∷ ids) = Cons (type_at types id) (types_at types ids)
 
 -- a function type of these parts
 abbrev pub function_at : List CType → Option FunctionParts → Bare
-function_at types None = Basic' Void
+function_at types None = BasicType Void
 function_at types (Some parts) = Function (type_at types parts.gives) (types_at types parts.parameters) parts.variadic
 
 -- what a shape with qualifiers stands for, over the types that were made before
 abbrev pub type_with : List FunctionParts → List CType → Shape → Quals → CType
-type_with functions types (s.Basic basic) quals = Plain (Basic' basic) quals
+type_with functions types (s.Basic basic) quals = Plain (BasicType basic) quals
 type_with functions types (s.Pointer to) quals = Plain (Pointer (type_at types to)) quals
 type_with functions types (s.Array of len) quals = Array (type_at types of) len
 type_with functions types (s.Function number) quals = Plain (function_at types (slice_get functions number)) quals
@@ -56,13 +56,13 @@ type_with functions types (s.Compound number) quals = Plain (Compound number) qu
 type_with functions types (s.Enumerated number) quals = Plain (Enumerated number) quals
 
 -- the types that were made, after these
-unfoldable pub grown : List FunctionParts → List CType → List Made → List CType
-grown functions types [] = types
-grown functions types (next ∷ rest) = grown functions (types ++ type_with functions types next.shape next.quals ∷ []) rest
+unfoldable pub types_from : List FunctionParts → List CType → List Made → List CType
+types_from functions types [] = types
+types_from functions types (next ∷ rest) = types_from functions (types ++ type_with functions types next.shape next.quals ∷ []) rest
 
 -- all types of a table, by their ids
 abbrev pub all_types : Types → List CType
-all_types types = grown types.functions [] types.made
+all_types types = types_from types.functions [] types.made
 
 -- the type that an id stands for
 abbrev pub type_of : Types → TypeId → CType
@@ -76,7 +76,7 @@ quals_of (Array of len) = quals_of of
 -- what a type is without its qualifiers; an array counts as none
 abbrev pub bare_of : CType → Bare
 bare_of (Plain bare quals) = bare
-bare_of (Array of len) = Basic' Void
+bare_of (Array of len) = BasicType Void
 
 -- the number of a basic type in the order of 6.2.5
 abbrev pub number_of : Basic → ℕ

@@ -25,4 +25,9 @@ variadic_of other = false
 
 -- the table with the parts of one more function type
 abbrev pub with_function : Types → FunctionParts → Types
-with_function types parts = record { made = types.made; functions = types.functions ++ parts ∷ []; compounds = types.compounds }
+with_function types parts = record {
+  made = types.made;
+  functions = types.functions ++ parts ∷ [];
+  compounds = types.compounds;
+  enumerations = types.enumerations;
+}

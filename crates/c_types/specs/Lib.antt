@@ -1,6 +1,9 @@
+-- The definitions of the crate, in reading order.
 pub mod Types
 pub mod CType
 pub mod Shapes
+pub mod PartCount
+pub mod Structures
 pub mod Layouts
 pub mod Making
 pub mod Qualified

@@ -1,3 +1,5 @@
+//! The basic types.
+
 /// The basic types and `void` (6.2.5p2 to p7, p14 and p19).
 #[derive(Clone, Copy, Debug, PartialEq, Eq)]
 pub enum Basic {

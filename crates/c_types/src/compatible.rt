@@ -1,3 +1,5 @@
+//! Compatible types: the test, and its laws.
+
 ghost use Rattle.std.specs.Prelude.{◌≡◌, ◌<◌, true};
 ghost use Rattle.c_types.specs.Types.{count_of};
 ghost use Rattle.c_types.specs.CType.{CType, type_of};
@@ -21,7 +23,8 @@ impl TypeTable {
     }
 
     // The types are compatible, where the outermost qualifiers count only if `strict`. It ends, since the parts of
-    // a type have lower ids, and the members of a compound type are not looked at.
+    // a type have lower ids, and the members of a compound type are not looked at. Each part of the type is met at
+    // most once, so there are at most as many calls as the type has parts.
     #[cycle(agree)]
     #[tactic(auto, unfolding(crate::specs::Compatible::agree, crate::specs::Compatible::bare_agree))]
     fn agree(&self, a: TypeId, b: TypeId, strict: bool) -> bool
@@ -29,6 +32,9 @@ impl TypeTable {
         requires b { b.0 < count_of self.now }
         ensures { result ≡ agree (type_of self.now a) (type_of self.now b) strict }
     {
+        if a == b {
+            return true;
+        }
         let (left, right) = (self.entry(a), self.entry(b));
         let qualified = !strict || same_quals(left.quals, right.quals);
         match left.shape {
@@ -98,7 +104,7 @@ pub fn compatibility_law()
 {}
 
 // Identically qualified.
-fn same_quals(left: Quals, right: Quals) -> bool
+pub fn same_quals(left: Quals, right: Quals) -> bool
     ensures { result ≡ same_quals left right }
 {
     left.constant == right.constant

@@ -1,3 +1,5 @@
+//! The composite of compatible types, and its laws.
+
 ghost use Rattle.std.specs.Prelude.{◌≡◌, ◌<◌, true, false, IfOk, OnErr};
 ghost use Rattle.c_types.specs.Types.{count_of};
 ghost use Rattle.c_types.specs.CType.{CType, type_of};
@@ -13,7 +15,7 @@ use std::alloc::AllocError;
 impl TypeTable {
     /// The composite type of two compatible types (6.2.7p3).
     ///
-    /// An array has the length that either gives. Where qualifiers differ, at parameters, they are those of `a`.
+    /// An array has the length that either gives. A parameter has the unqualified version of its type (6.7.6.3p15).
     pub fn composite(&mut self, a: TypeId, b: TypeId) -> Result<TypeId, AllocError>
         requires a { a.0 < count_of self.old }
         requires b { b.0 < count_of self.old }
@@ -48,7 +50,7 @@ impl TypeTable {
             Shape::Pointer(to) => match right.shape {
                 Shape::Pointer(other) => {
                     let to = self.compose(to, other)?;
-                    self.push(Shape::Pointer(to), left.quals, left.layout)
+                    self.push_pointer(to, left.quals)
                 }
                 _ => Ok(a),
             },
@@ -56,8 +58,8 @@ impl TypeTable {
                 Shape::Array(other, other_length) => {
                     let of = self.compose(of, other)?;
                     match length {
-                        Some(_) => self.push(Shape::Array(of, length), left.quals, left.layout),
-                        None => self.push(Shape::Array(of, other_length), left.quals, right.layout),
+                        Some(_) => self.push_array(of, length, left.layout),
+                        None => self.push_array(of, other_length, right.layout),
                     }
                 }
                 _ => Ok(a),
@@ -109,7 +111,8 @@ impl TypeTable {
         let mut made = Vec::new(self.alloc);
         for i in 0..left.len() {
             let id = self.compose(left[i], right[i])?;
-            made.push(id)?;
+            let bare = self.unqualified(id)?;
+            made.push(bare)?;
         }
         Ok(made)
     }

@@ -1,11 +1,15 @@
-ghost use Rattle.std.specs.Prelude.{◌≡◌, ◌<◌, Some, None, All, length, IfOk, IfErr, OnOk, OnErr, option_map};
+//! Structures and unions: how they are made and completed, and their members.
+
+ghost use Rattle.std.specs.Prelude.{◌≡◌, ℕ, ◌<◌, Some, None, All, length, map, IfOk, IfErr, IfSome, OnOk, OnErr, option_map};
 ghost use Rattle.c_types.specs.declared.member.Member.{Member};
 ghost use Rattle.c_types.specs.declared.shape.TypeId.{TypeId};
 ghost use Rattle.c_types.specs.Types.{CompoundBody, count_of};
-ghost use Rattle.c_types.specs.CType.{type_of};
-ghost use Rattle.c_types.specs.Compounds.{IsCompound, IsIncomplete, IsBodyOf, Completes, with_body, number_in, parts_at, MakesCompound, compound_at, members_at, member_named};
+ghost use Rattle.c_types.specs.CType.{type_of, all_types};
+ghost use Rattle.c_types.specs.Structures.{IsIncomplete, structures_of, any_const, members_of, typed_member, typed_member_named};
+ghost use Rattle.c_types.specs.Compounds.{IsCompound, IsBodyOf, Completes, with_body, number_in, parts_at, MakesCompound, compound_at, members_at, member_named};
 ghost use Rattle.c_types.specs.Layouts.{layouts_of, compound_fault, IsForWant, IsBuilt};
-ghost use Rattle.c_types.specs.Inner.{compound_of, body_of};
+ghost use Rattle.c_types.specs.Making.{Grows};
+ghost use Rattle.c_types.specs.Inner.{compound_of, body_of, HasMembersIn};
 
 use crate::fault::{BuildFault, LayoutFault};
 use crate::layout::Layout;
@@ -25,7 +29,7 @@ impl TypeTable {
     {
         let number = self.compounds.len() as u64;
         let id = TypeId(self.made.len() as u64);
-        self.made.push(Made::plain(Shape::Compound(number)))?;
+        self.made.push(Made::plain(Shape::Compound(number), 1))?;
         let parts = CompoundType {
             is_union,
             body: None,
@@ -48,7 +52,7 @@ impl TypeTable {
         types: &[TypeId],
     ) -> Result<(), BuildFault>
         requires is_there { id.0 < count_of self.old }
-        requires incomplete { IsIncomplete self.old (type_of self.old id) }
+        requires incomplete { IsIncomplete (type_of self.old id) (structures_of self.old) }
         requires types { All (λ (id : TypeId). id.0 < count_of self.old) types.now }
         requires pairs { length types.now ≡ length names.now }
         requires some { 0 < length names.now }
@@ -58,7 +62,7 @@ impl TypeTable {
             (layouts_of self.old types.now)) result }
         ensures err { OnErr result (self.new ≡ self.old) }
     {
-        let number = self.compound_number(id);
+        let number = self.incomplete_number(id);
         let body = self.body(self.is_union(id), names, types)?;
         self.set_body(number, body);
         Ok(())
@@ -78,19 +82,36 @@ impl TypeTable {
         let places = places_with(self.alloc, is_union, &layouts)?;
         let members = members_with(self.alloc, names, types, &places)?;
         let align = strictest(&layouts);
+        let has_const = self.any_const(types);
         Ok(Body {
             members,
             layout: Layout { size, align },
+            has_const,
         })
     }
 
-    // The number of a structure or union.
-    fn compound_number(&self, id: TypeId) -> u64
+    // One of the types is const, or has a const member at any depth.
+    fn any_const(&self, types: &[TypeId]) -> bool
+        requires { All (λ (id : TypeId). id.0 < count_of self.now) types.now }
+        ensures { result ≡ any_const (map (type_of self.now) types.now) (structures_of self.now) }
+    {
+        for id in types {
+            if self.has_const(*id) {
+                return true;
+            }
+        }
+        false
+    }
+
+    // The number of a structure or union that has no members yet.
+    fn incomplete_number(&self, id: TypeId) -> u64
         requires is_there { id.0 < count_of self.now }
-        requires compound { IsCompound (type_of self.now id) }
+        requires incomplete { IsIncomplete (type_of self.now id) (structures_of self.now) }
+        ensures compound { IsCompound (type_of self.now id) }
         ensures number { result ≡ number_in (type_of self.now id) }
         ensures below { result < length self.now.compounds }
         ensures parts { compound_at self.now (type_of self.now id) ≡ parts_at self.now result }
+        ensures none { (parts_at self.now result).body ≡ None }
     {
         match self.shape(id) {
             Shape::Compound(number) => number,
@@ -103,10 +124,11 @@ impl TypeTable {
         requires is_there { number < length self.old.compounds }
         requires incomplete { (parts_at self.old number).body ≡ None }
         requires members { All (λ (m : Member). m.of.0 < count_of self.old) body.members.items }
-        ensures { self.new ≡ with_body self.old number (record {
+        ensures changed { self.new ≡ with_body self.old number (record {
           is_union = (parts_at self.old number).is_union;
           body = Some (body_of body);
         }) }
+        ensures grows { Grows self.old self.new }
     {
         self.compounds[number as usize].body = Some(body);
     }
@@ -130,11 +152,12 @@ impl TypeTable {
         Ok(layouts)
     }
 
-    // The parts of a structure or union.
+    // The parts of a structure or union. Its members are types of the table.
     fn compound_parts(&self, id: TypeId) -> &CompoundType
         requires is_there { id.0 < count_of self.now }
         requires compound { IsCompound (type_of self.now id) }
-        ensures { compound_of result.now ≡ compound_at self.now (type_of self.now id) }
+        ensures parts { compound_of result.now ≡ compound_at self.now (type_of self.now id) }
+        ensures members { HasMembersIn self.now (compound_of result.now) }
     {
         match self.shape(id) {
             Shape::Compound(number) => &self.compounds[number as usize],
@@ -155,7 +178,11 @@ impl TypeTable {
     pub fn members(&self, id: TypeId) -> Option<&[Member]>
         requires is_there { id.0 < count_of self.now }
         requires compound { IsCompound (type_of self.now id) }
-        ensures { option_map (λ members. members.now) result
+        ensures are_there { IfSome result
+            (λ members. All (λ (m : Member). m.of.0 < count_of self.now) members.now) }
+        ensures typed { IfSome result (λ members. map (typed_member (all_types self.now)) members.now
+            ≡ members_of (type_of self.now id) (structures_of self.now)) }
+        ensures members { option_map (λ members. members.now) result
             ≡ option_map (λ (body : CompoundBody). body.members) (compound_at self.now (type_of self.now id)).body }
     {
         match &self.compound_parts(id).body {
@@ -169,10 +196,13 @@ impl TypeTable {
     /// None exactly where the type has no such member.
     pub fn member(&self, id: TypeId, name: &Name) -> Option<(TypeId, u32)>
         requires { id.0 < count_of self.now }
-        ensures { result ≡ member_named (members_at self.now (type_of self.now id)) name.now }
+        ensures is_there { IfSome result (λ member. member.0.0 < count_of self.now) }
+        ensures typed { option_map (λ (member : TypeId × ℕ). (type_of self.now member.0, member.1)) result
+            ≡ typed_member_named (members_of (type_of self.now id) (structures_of self.now)) name.now }
+        ensures member { result ≡ member_named (members_at self.now (type_of self.now id)) name.now }
     {
         match self.shape(id) {
-            Shape::Compound(_) => named(self.members(id)?, name),
+            Shape::Compound(_) => find_member(self.members(id)?, name),
             Shape::Basic(_) => None,
             Shape::Pointer(_) => None,
             Shape::Array(_, _) => None,
@@ -183,7 +213,7 @@ impl TypeTable {
 }
 
 // The first member of that name.
-fn named(members: &[Member], name: &Name) -> Option<(TypeId, u32)>
+fn find_member(members: &[Member], name: &Name) -> Option<(TypeId, u32)>
     ensures { result ≡ member_named members.now name.now }
 {
     for member in members {

@@ -1,3 +1,5 @@
+//! Why a type is not made.
+
 use std::alloc::{AllocError, AllocFailed};
 use thiserror::Error;
 

@@ -1,12 +1,15 @@
-ghost use Rattle.std.specs.Prelude.{◌≡◌, ◌<◌, All, IfOk, OnErr};
+//! Function types: how they are made, and their parts.
+
+ghost use Rattle.std.specs.Prelude.{◌≡◌, ◌<◌, ◌≤◌, All, IfOk, OnErr, MatchOption};
 ghost use Rattle.c_types.specs.declared.shape.TypeId.{TypeId};
 ghost use Rattle.c_types.specs.Types.{count_of};
-ghost use Rattle.c_types.specs.CType.{Plain, Function, type_of, types_at, all_types, unqualified, bare_of};
+ghost use Rattle.c_types.specs.CType.{Plain, Function, type_of, types_at, all_types, no_quals, bare_of};
+ghost use Rattle.c_types.specs.PartCount.{function_count, most_parts};
 ghost use Rattle.c_types.specs.Functions.{IsFunction, gives_of, parameters_of, variadic_of};
 ghost use Rattle.c_types.specs.Making.{MakesType};
 ghost use Rattle.c_types.specs.Composite.{AddsTypes};
 
-use crate::parts::{Made, Signature};
+use crate::parts::{MOST_PARTS, Made, Signature};
 use crate::shape::{Quals, Shape, TypeId};
 use crate::table::TypeTable;
 use std::alloc::AllocError;
@@ -22,19 +25,60 @@ impl TypeTable {
         requires gives { gives.0 < count_of self.old }
         requires parameters { All (λ (p : TypeId). p.0 < count_of self.old) parameters.now }
         ensures made { IfOk result (λ id. MakesType self.old self.new id (Plain (Function
-            (type_of self.old gives) (types_at (all_types self.old) parameters.now) variadic) unqualified)) }
+            (type_of self.old gives) (types_at (all_types self.old) parameters.now) variadic) no_quals)) }
         ensures more { IfOk result (λ _. AddsTypes self.old self.new) }
         ensures err { OnErr result (self.new ≡ self.old) }
     {
-        let number = self.functions.len() as u64;
-        let id = TypeId(self.made.len() as u64);
+        let Some(parts) = self.function_parts(gives, parameters) else {
+            return Err(AllocError);
+        };
         let parameters = Vec::from_slice(self.alloc, parameters)?;
         let signature = Signature {
             gives,
             parameters,
             variadic,
         };
-        self.made.push(Made::plain(Shape::Function(number)))?;
+        self.push_function(signature, parts)
+    }
+
+    // How many parts a function type has; none where it would have too many.
+    fn function_parts(&self, gives: TypeId, parameters: &[TypeId]) -> Option<u32>
+        requires gives { gives.0 < count_of self.now }
+        requires parameters { All (λ (p : TypeId). p.0 < count_of self.now) parameters.now }
+        ensures { MatchOption result
+            (most_parts < function_count (type_of self.now gives) (types_at (all_types self.now) parameters.now))
+            (λ parts. (parts ≤ most_parts)
+            × (parts ≡ function_count (type_of self.now gives) (types_at (all_types self.now) parameters.now))) }
+    {
+        let mut parts = self.parts(gives) + 1;
+        for parameter in parameters {
+            if parts > MOST_PARTS {
+                return None;
+            }
+            parts += self.parts(*parameter);
+        }
+        if parts > MOST_PARTS {
+            return None;
+        }
+        Some(parts)
+    }
+
+    // One more function type, which has so many parts.
+    fn push_function(&mut self, signature: Signature, parts: u32) -> Result<TypeId, AllocError>
+        requires gives { signature.gives.0 < count_of self.old }
+        requires parameters { All (λ (p : TypeId). p.0 < count_of self.old) signature.parameters.items }
+        requires count { parts ≡ function_count (type_of self.old signature.gives)
+            (types_at (all_types self.old) signature.parameters.items) }
+        requires bound { parts ≤ most_parts }
+        ensures made { IfOk result (λ id. MakesType self.old self.new id (Plain (Function
+            (type_of self.old signature.gives) (types_at (all_types self.old) signature.parameters.items)
+            signature.variadic) no_quals)) }
+        ensures more { IfOk result (λ _. AddsTypes self.old self.new) }
+        ensures err { OnErr result (self.new ≡ self.old) }
+    {
+        let number = self.functions.len() as u64;
+        let id = TypeId(self.made.len() as u64);
+        self.made.push(Made::plain(Shape::Function(number), parts))?;
         if self.functions.push(signature).is_err() {
             self.made.pop();
             return Err(AllocError);

@@ -1,3 +1,5 @@
+//! Sizes and alignments of basic types and arrays.
+
 ghost use Rattle.std.specs.Prelude.{◌≡◌, IfOk};
 ghost use Rattle.std.specs.Result.{result_err};
 ghost use Rattle.c_types.specs.Layouts.{kind_of, basic_layout, array_layout, array_fault};

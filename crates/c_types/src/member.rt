@@ -1,3 +1,5 @@
+//! A member of a structure or union.
+
 use crate::shape::TypeId;
 use critical_table::Name;
 

@@ -1,3 +1,5 @@
+//! What a table keeps: for each id, for each function type, and for each structure or union.
+
 ghost use Rattle.std.specs.Prelude.{◌≡◌};
 
 use crate::basic::Basic;
@@ -5,17 +7,21 @@ use crate::layout::{Layout, basic_layout};
 use crate::member::Member;
 use crate::shape::{Quals, Shape, TypeId};
 
-/// What the table keeps for an id. The layout of a compound type stands with its body.
+/// What the table keeps for an id.
+///
+/// The layout of a compound type stands with its body. `parts` is how many parts the type has, itself counted, each as
+/// often as it stands in it; a structure, union or enumerated type is one part.
 #[derive(Clone, Copy, Debug, PartialEq, Eq)]
 pub struct Made {
     pub shape: Shape,
     pub quals: Quals,
     pub layout: Option<Layout>,
+    pub parts: u32,
 }
 
 impl Made {
     ghost use Rattle.c_types.specs.Inner.{entry_of, basics};
-    ghost use Rattle.c_types.specs.CType.{unqualified, number_of};
+    ghost use Rattle.c_types.specs.CType.{no_quals, number_of};
 
     /// An unqualified basic type.
     pub fn basic(basic: Basic) -> Made
@@ -25,17 +31,19 @@ impl Made {
             shape: Shape::Basic(basic),
             quals: Quals::NONE,
             layout: basic_layout(basic),
+            parts: 1,
         }
     }
 
-    /// An unqualified type whose layout stands elsewhere, or that has none.
-    pub fn plain(shape: Shape) -> Made
-        ensures { result ≡ record { shape = shape; quals = unqualified; layout = None } }
+    /// An unqualified type of so many parts, whose layout stands elsewhere, or that has none.
+    pub fn plain(shape: Shape, parts: u32) -> Made
+        ensures { result ≡ record { shape = shape; quals = no_quals; layout = None; parts = parts } }
     {
         Made {
             shape,
             quals: Quals::NONE,
             layout: None,
+            parts,
         }
     }
 
@@ -97,8 +105,13 @@ pub struct CompoundType {
     pub body: Option<Body>,
 }
 
+/// The members of a structure or union in order, its layout, and whether it has a const member at any depth.
 #[derive(Debug, Drop)]
 pub struct Body {
     pub members: Vec<Member>,
     pub layout: Layout,
+    pub has_const: bool,
 }
+
+/// The most parts that a type of a table has.
+pub const MOST_PARTS: u32 = 4096;

@@ -1,6 +1,8 @@
+//! Where the members of a structure or union stand, and how large it is.
+
 ghost use Rattle.std.specs.Prelude.{◌≡◌, ◌^◌, ◌<◌, ◌≤◌, ◌+◌, length, true, false, Some, MatchOption, IfOk};
 ghost use Rattle.std.specs.Result.{result_err};
-ghost use Rattle.c_types.specs.Layouts.{rounded, strictest, end_from, largest_from, end_with, size_with, compound_fault, places_from, places_with, largest};
+ghost use Rattle.c_types.specs.Layouts.{round_up, strictest, end_from, largest_from, end_with, size_with, compound_fault, places_from, places_with, largest};
 ghost use Rattle.c_types.specs.Compounds.{members_with};
 
 use crate::fault::LayoutFault;
@@ -11,9 +13,9 @@ use critical_table::Name;
 use std::alloc::{AllocError, Global};
 
 // The multiple of the alignment that is next from a byte on.
-fn rounded(from: u64, align: u32) -> u64
+fn round_up(from: u64, align: u32) -> u64
     requires { from < 2 ^ 40 }
-    ensures value { result ≡ rounded from align }
+    ensures value { result ≡ round_up from align }
     ensures bound { result < 2 ^ 41 }
 {
     let align = u64::from(align);
@@ -52,7 +54,7 @@ fn end_of(layouts: &[Layout]) -> Option<u64>
 {
     let mut end = 0;
     for layout in layouts {
-        end = rounded(end, layout.align) + u64::from(layout.size);
+        end = round_up(end, layout.align) + u64::from(layout.size);
         if end > u64::from(LARGEST) {
             return None;
         }
@@ -82,7 +84,7 @@ pub fn size_with(is_union: bool, layouts: &[Layout]) -> Result<u32, LayoutFault>
     let Some(end) = end_with(is_union, layouts) else {
         return Err(LayoutFault::TooLarge);
     };
-    let size = rounded(end, strictest(layouts));
+    let size = round_up(end, strictest(layouts));
     if size > u64::from(LARGEST) {
         return Err(LayoutFault::TooLarge);
     }
@@ -98,7 +100,7 @@ fn places_in_order(alloc: Global, layouts: &[Layout]) -> Result<Vec<u32>, AllocE
     let mut places = Vec::new(alloc);
     let mut from = 0;
     for layout in layouts {
-        let at = rounded(from, layout.align);
+        let at = round_up(from, layout.align);
         from = at + u64::from(layout.size);
         places.push(at as u32)?;
     }

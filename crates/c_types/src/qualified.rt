@@ -1,9 +1,14 @@
+//! Types with more qualifiers, and without any.
+
 ghost use Rattle.std.specs.Prelude.{◌≡◌, ◌<◌, IfOk, OnErr};
 ghost use Rattle.c_types.specs.Types.{count_of};
 ghost use Rattle.c_types.specs.CType.{type_of};
 ghost use Rattle.c_types.specs.Making.{MakesType};
-ghost use Rattle.c_types.specs.Qualified.{joined, with_quals, MakesMore};
+ghost use Rattle.c_types.specs.Qualified.{both_quals, with_quals, without_quals, MakesMore};
+ghost use Rattle.c_types.specs.Composite.{AddsTypes};
 
+use crate::compatible::same_quals;
+use crate::parts::Made;
 use crate::shape::{Quals, Shape, TypeId};
 use crate::table::TypeTable;
 use std::alloc::AllocError;
@@ -35,16 +40,58 @@ impl TypeTable {
         match entry.shape {
             Shape::Array(of, length) => {
                 let of = self.qualify(of, quals)?;
-                self.push(Shape::Array(of, length), entry.quals, entry.layout)
+                self.push_array(of, length, entry.layout)
             }
-            shape => self.push(shape, joined(entry.quals, quals), entry.layout),
+            _ => self.push(Made {
+                quals: both_quals(entry.quals, quals),
+                ..entry
+            }),
+        }
+    }
+
+    /// The unqualified version of the type (6.2.5p26), as a value has it (6.3.2.1p2); that of an array has such elements.
+    pub fn unqualified(&mut self, id: TypeId) -> Result<TypeId, AllocError>
+        requires { id.0 < count_of self.old }
+        ensures made { IfOk result
+            (λ new. MakesType self.old self.new new (without_quals (type_of self.old id))) }
+        ensures more { IfOk result (λ _. AddsTypes self.old self.new) }
+        ensures err { OnErr result (self.new ≡ self.old) }
+    {
+        if same_quals(self.quals(id), Quals::NONE) {
+            return Ok(id);
+        }
+        let count = self.made.len();
+        let made = self.strip(id);
+        if made.is_err() {
+            self.made.truncate(count);
+        }
+        made
+    }
+
+    // The same, where types of elements may be left over for want of memory.
+    fn strip(&mut self, id: TypeId) -> Result<TypeId, AllocError>
+        requires { id.0 < count_of self.old }
+        ensures made { IfOk result
+            (λ new. MakesType self.old self.new new (without_quals (type_of self.old id))) }
+        ensures more { MakesMore self.old self.new }
+    {
+        let entry = self.entry(id);
+        match entry.shape {
+            Shape::Array(of, length) => {
+                let of = self.strip(of)?;
+                self.push_array(of, length, entry.layout)
+            }
+            _ => self.push(Made {
+                quals: Quals::NONE,
+                ..entry
+            }),
         }
     }
 }
 
 // The qualifiers of both.
-fn joined(left: Quals, right: Quals) -> Quals
-    ensures { result ≡ joined left right }
+fn both_quals(left: Quals, right: Quals) -> Quals
+    ensures { result ≡ both_quals left right }
 {
     Quals {
         constant: left.constant || right.constant,

@@ -1,3 +1,5 @@
+//! What names a type, what it is built of, and its qualifiers.
+
 use crate::basic::Basic;
 
 /// A type that a table has made. Ids of different tables have nothing to do with each other.

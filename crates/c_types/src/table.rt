@@ -1,28 +1,38 @@
-ghost use Rattle.std.specs.Prelude.{◌≡◌, ◌<◌, [], length, IfOk, IfSome, OnErr, MatchOption, slice_get, option_map};
+//! The table of types: how pointers, arrays and enumerated types are made, and what an id stands for.
+
+ghost use Rattle.std.specs.Prelude.{◌≡◌, ◌<◌, ◌≤◌, [], length, IfOk, IfSome, OnErr, MatchOption, option_map};
 ghost use Rattle.c_types.specs.declared.layout.Layout.{Layout};
+ghost use Rattle.c_types.specs.declared.shape.Shape.{Shape};
+ghost use Rattle.c_types.specs.declared.parts.Made.{Made};
 ghost use Rattle.c_types.specs.Types.{count_of};
-ghost use Rattle.c_types.specs.CType.{Plain, Array, Basic', Pointer, Enumerated, quals_of, type_of, type_with, all_types, unqualified};
+ghost use Rattle.c_types.specs.CType.{Plain, Array, BasicType, Pointer, Enumerated, quals_of, type_of, type_with, all_types, no_quals};
 ghost use Rattle.c_types.specs.Shapes.{RefersBelow, ShowsType, entry_at};
-ghost use Rattle.c_types.specs.Layouts.{layout_of, compound_layout, array_fault, IsBuilt};
+ghost use Rattle.c_types.specs.PartCount.{part_count, most_parts};
+ghost use Rattle.c_types.specs.Structures.{structure_at, structures_of, body_has_const, has_const};
+ghost use Rattle.c_types.specs.Layouts.{layout_of, structure_layout, array_fault, IsBuilt};
 ghost use Rattle.c_types.specs.Inner.{KeepsLayout, basics};
-ghost use Rattle.c_types.specs.Making.{MakesType};
+ghost use Rattle.c_types.specs.Making.{MakesType, MakesEnumerated};
 ghost use Rattle.c_types.specs.Qualified.{MakesMore};
 
 use crate::basic::Basic;
 use crate::fault::BuildFault;
 use crate::layout::{Layout, array_layout};
-use crate::parts::{CompoundType, Made, Signature};
+use crate::parts::{CompoundType, MOST_PARTS, Made, Signature};
 use crate::shape::{Quals, Shape, TypeId};
 use std::alloc::{AllocError, Global};
 use std::marker::Model;
 
-/// The types of a unit. Contracts see what it has made, in order.
+/// The types of a unit. Contracts see what it has made, in order, and by `structures_of` its structures and unions.
+///
+/// No type has more than 4,096 parts, each counted as often as it stands in it: a call that would make one answers want
+/// of memory. So a walk through the parts of a type is no deeper and no longer than that.
 #[derive(Drop)]
 pub struct TypeTable {
     pub(crate) alloc: Global,
     pub(crate) made: Vec<Made>,
     pub(crate) functions: Vec<Signature>,
     pub(crate) compounds: Vec<CompoundType>,
+    pub(crate) enumerations: u64,
 }
 
 impl Model for TypeTable {
@@ -42,7 +52,7 @@ impl Model for TypeTable {
 impl TypeTable {
     /// A table of the basic types alone.
     pub fn new(alloc: Global) -> Result<TypeTable, AllocError>
-        ensures { IfOk result (λ table. table ≡ record { made = basics; functions = []; compounds = [] }) }
+        ensures { IfOk result (λ table. table ≡ record { made = basics; functions = []; compounds = []; enumerations = 0 }) }
     {
         let made = Vec::from_slice(alloc, &Made::basics())?;
         Ok(TypeTable {
@@ -50,30 +60,27 @@ impl TypeTable {
             made,
             functions: Vec::new(alloc),
             compounds: Vec::new(alloc),
+            enumerations: 0,
         })
     }
 
-    // One more type, of this shape.
-    pub(crate) fn push(
-        &mut self,
-        shape: Shape,
-        quals: Quals,
-        layout: Option<Layout>,
-    ) -> Result<TypeId, AllocError>
-        requires refers { RefersBelow self.old (count_of self.old) shape }
-        requires layout { KeepsLayout shape layout
-            (type_with self.old.functions (all_types self.old) shape quals) self.old.compounds }
+    // One more type, unless it has too many parts.
+    pub(crate) fn push(&mut self, next: Made) -> Result<TypeId, AllocError>
+        requires refers { RefersBelow self.old (count_of self.old) next.shape }
+        requires layout { KeepsLayout next.shape next.layout
+            (type_with self.old.functions (all_types self.old) next.shape next.quals) (structures_of self.old) }
+        requires parts { next.parts
+            ≡ part_count (type_with self.old.functions (all_types self.old) next.shape next.quals) }
         ensures made { IfOk result (λ id. MakesType self.old self.new id
-            (type_with self.old.functions (all_types self.old) shape quals)) }
+            (type_with self.old.functions (all_types self.old) next.shape next.quals)) }
         ensures more { MakesMore self.old self.new }
         ensures err { OnErr result (self.new ≡ self.old) }
     {
+        if next.parts > MOST_PARTS {
+            return Err(AllocError);
+        }
         let id = TypeId(self.made.len() as u64);
-        self.made.push(Made {
-            shape,
-            quals,
-            layout,
-        })?;
+        self.made.push(next)?;
         Ok(id)
     }
 
@@ -81,20 +88,47 @@ impl TypeTable {
     pub fn pointer(&mut self, to: TypeId) -> Result<TypeId, AllocError>
         requires { to.0 < count_of self.old }
         ensures made { IfOk result
-            (λ id. MakesType self.old self.new id (Plain (Pointer (type_of self.old to)) unqualified)) }
+            (λ id. MakesType self.old self.new id (Plain (Pointer (type_of self.old to)) no_quals)) }
         ensures err { OnErr result (self.new ≡ self.old) }
     {
-        self.push(Shape::Pointer(to), Quals::NONE, Some(Layout::POINTER))
+        self.push_pointer(to, Quals::NONE)
+    }
+
+    // A pointer with these qualifiers.
+    pub(crate) fn push_pointer(&mut self, to: TypeId, quals: Quals) -> Result<TypeId, AllocError>
+        requires { to.0 < count_of self.old }
+        ensures made { IfOk result
+            (λ id. MakesType self.old self.new id (Plain (Pointer (type_of self.old to)) quals)) }
+        ensures more { MakesMore self.old self.new }
+        ensures err { OnErr result (self.new ≡ self.old) }
+    {
+        let parts = self.parts(to) + 1;
+        self.push(Made {
+            shape: Shape::Pointer(to),
+            quals,
+            layout: Some(Layout::POINTER),
+            parts,
+        })
     }
 
     /// An enumerated type (6.7.2.2), which is none of those that are there.
     pub fn enumerated(&mut self) -> Result<TypeId, AllocError>
-        ensures made { IfOk result
-            (λ id. MakesType self.old self.new id (Plain (Enumerated (count_of self.old)) unqualified)) }
+        ensures made { IfOk result (λ id. MakesEnumerated self.old self.new id) }
         ensures err { OnErr result (self.new ≡ self.old) }
     {
-        let number = self.made.len() as u64;
-        self.push(Shape::Enumerated(number), Quals::NONE, Some(Layout::INT))
+        let number = self.enumerations;
+        let Some(enumerations) = number.checked_add(1) else {
+            return Err(AllocError);
+        };
+        let id = TypeId(self.made.len() as u64);
+        self.made.push(Made {
+            shape: Shape::Enumerated(number),
+            quals: Quals::NONE,
+            layout: Some(Layout::INT),
+            parts: 1,
+        })?;
+        self.enumerations = enumerations;
+        Ok(id)
     }
 
     /// An array of that length, or of none (6.2.5p20, 6.7.6.2).
@@ -105,17 +139,40 @@ impl TypeTable {
         requires of { of.0 < count_of self.old }
         requires length { IfSome length (λ n. 0 < n) }
         ensures made { IfOk result (λ id. MakesType self.old self.new id (Array (type_of self.old of) length)) }
-        ensures fault { IsBuilt (array_fault (layout_of (type_of self.old of) self.old.compounds) length) result }
+        ensures fault { IsBuilt (array_fault (layout_of (type_of self.old of) (structures_of self.old)) length) result }
         ensures err { OnErr result (self.new ≡ self.old) }
     {
         let layout = array_layout(self.layout(of), length)?;
-        Ok(self.push(Shape::Array(of, length), Quals::NONE, layout)?)
+        Ok(self.push_array(of, length, layout)?)
+    }
+
+    // An array of that length, which has this layout.
+    pub(crate) fn push_array(
+        &mut self,
+        of: TypeId,
+        length: Option<u64>,
+        layout: Option<Layout>,
+    ) -> Result<TypeId, AllocError>
+        requires of { of.0 < count_of self.old }
+        requires layout { KeepsLayout (Shape.Array of length) layout
+            (Array (type_of self.old of) length) (structures_of self.old) }
+        ensures made { IfOk result (λ id. MakesType self.old self.new id (Array (type_of self.old of) length)) }
+        ensures more { MakesMore self.old self.new }
+        ensures err { OnErr result (self.new ≡ self.old) }
+    {
+        let parts = self.parts(of) + 1;
+        self.push(Made {
+            shape: Shape::Array(of, length),
+            quals: Quals::NONE,
+            layout,
+            parts,
+        })
     }
 
     /// A basic type or `void`, unqualified.
     pub fn basic(&self, basic: Basic) -> TypeId
         ensures is_there { result.0 < count_of self.now }
-        ensures stands_for { type_of self.now result ≡ Plain (Basic' basic) unqualified }
+        ensures stands_for { type_of self.now result ≡ Plain (BasicType basic) no_quals }
     {
         let _begins = &self.made;
         TypeId(Made::place(basic))
@@ -126,7 +183,9 @@ impl TypeTable {
         requires { id.0 < count_of self.now }
         ensures entry { result ≡ entry_at self.now id.0 }
         ensures shows { ShowsType self.now id result.shape }
-        ensures layout { KeepsLayout result.shape result.layout (type_of self.now id) self.now.compounds }
+        ensures layout { KeepsLayout result.shape result.layout (type_of self.now id) (structures_of self.now) }
+        ensures parts { result.parts ≡ part_count (type_of self.now id) }
+        ensures bound { result.parts ≤ most_parts }
     {
         self.made[id.0 as usize]
     }
@@ -137,6 +196,17 @@ impl TypeTable {
         ensures { ShowsType self.now id result }
     {
         self.entry(id).shape
+    }
+
+    /// How many parts the type has, each counted as often as it stands in it.
+    ///
+    /// A structure, union or enumerated type is one part. There are at most 4,096.
+    pub fn parts(&self, id: TypeId) -> u32
+        requires { id.0 < count_of self.now }
+        ensures count { result ≡ part_count (type_of self.now id) }
+        ensures bound { result ≤ most_parts }
+    {
+        self.entry(id).parts
     }
 
     /// The qualifiers of the type; of an array those of its elements (6.7.3p9).
@@ -167,10 +237,12 @@ impl TypeTable {
         }
     }
 
-    // The layout of the type, where it has one.
-    pub(crate) fn layout(&self, id: TypeId) -> Option<Layout>
+    /// The size and the alignment of the type.
+    ///
+    /// None for `void`, a function type, an incomplete compound type and an array without a length.
+    pub fn layout(&self, id: TypeId) -> Option<Layout>
         requires { id.0 < count_of self.now }
-        ensures { result ≡ layout_of (type_of self.now id) self.now.compounds }
+        ensures { result ≡ layout_of (type_of self.now id) (structures_of self.now) }
     {
         let entry = self.entry(id);
         match entry.shape {
@@ -181,7 +253,7 @@ impl TypeTable {
 
     fn compound_layout(&self, number: u64) -> Option<Layout>
         requires { number < length self.now.compounds }
-        ensures { result ≡ compound_layout (slice_get self.now.compounds number) }
+        ensures { result ≡ structure_layout (structure_at (structures_of self.now) number) }
     {
         match &self.compounds[number as usize].body {
             Some(body) => Some(body.layout),
@@ -191,21 +263,47 @@ impl TypeTable {
 
     /// The size in bytes (6.5.3.4p2).
     ///
-    /// None for `void`, a function type, an incomplete compound type and an array without a length.
+    /// None where the type has no layout.
     pub fn size_of(&self, id: TypeId) -> Option<u32>
         requires { id.0 < count_of self.now }
-        ensures { result ≡ option_map (λ (l : Layout). l.size) (layout_of (type_of self.now id) self.now.compounds) }
+        ensures { result ≡ option_map (λ (l : Layout). l.size) (layout_of (type_of self.now id) (structures_of self.now)) }
     {
         Some(self.layout(id)?.size)
     }
 
     /// The alignment in bytes (6.2.8p1, 6.5.3.4p3).
     ///
-    /// None where the type has no size.
+    /// None where the type has no layout.
     pub fn align_of(&self, id: TypeId) -> Option<u32>
         requires { id.0 < count_of self.now }
-        ensures { result ≡ option_map (λ (l : Layout). l.align) (layout_of (type_of self.now id) self.now.compounds) }
+        ensures { result ≡ option_map (λ (l : Layout). l.align) (layout_of (type_of self.now id) (structures_of self.now)) }
     {
         Some(self.layout(id)?.align)
+    }
+
+    /// An object of the type is const, or has a const member at any depth (6.3.2.1p1); of an array its elements.
+    pub fn has_const(&self, id: TypeId) -> bool
+        requires { id.0 < count_of self.now }
+        ensures { result ≡ has_const (type_of self.now id) (structures_of self.now) }
+    {
+        let entry = self.entry(id);
+        match entry.shape {
+            Shape::Array(of, _) => self.has_const(of),
+            Shape::Compound(number) => entry.quals.constant || self.has_const_member(number),
+            Shape::Basic(_) | Shape::Pointer(_) | Shape::Function(_) | Shape::Enumerated(_) => {
+                entry.quals.constant
+            }
+        }
+    }
+
+    // The structure or union of that number has a const member at any depth.
+    fn has_const_member(&self, number: u64) -> bool
+        requires { number < length self.now.compounds }
+        ensures { result ≡ body_has_const (structure_at (structures_of self.now) number).body }
+    {
+        match &self.compounds[number as usize].body {
+            Some(body) => body.has_const,
+            None => false,
+        }
     }
 }

@@ -1,3 +1,4 @@
+-- The laws of compatible types.
 use Rattle.std.specs.Prelude.{true}
 use Rattle.c_types.proofs.CompatibleLaws.{agree-sym, agree-own}
 use Rattle.c_types.proofs.compatible.compatibility_law.Goals as goal

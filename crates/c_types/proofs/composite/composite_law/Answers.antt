@@ -1,3 +1,4 @@
+-- The laws of composite types.
 use Rattle.std.specs.Prelude.{true}
 use Rattle.c_types.proofs.CompositeLaws.{composite-first, composite-second}
 use Rattle.c_types.proofs.composite.composite_law.Goals as goal

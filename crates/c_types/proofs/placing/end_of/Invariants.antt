@@ -1,3 +1,4 @@
+-- The end so far, and the rest.
 use Rattle.std.proofs.Common.{◌≡◌, ◌≤◌, drop}
 use Rattle.c_types.specs.Layouts.{end_from, largest}
 use Rattle.c_types.proofs.placing.end_of.Given as goal

@@ -1,3 +1,4 @@
+-- The size so far, and those of the rest.
 use Rattle.std.proofs.Common.{◌≡◌, drop}
 use Rattle.c_types.specs.Layouts.{largest_from}
 use Rattle.c_types.proofs.placing.largest_size.Given as goal

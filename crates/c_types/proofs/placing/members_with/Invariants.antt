@@ -1,3 +1,4 @@
+-- The members so far, and the rest.
 use Rattle.std.proofs.Common.{◌≡◌, ◌++◌, drop}
 use Rattle.c_types.specs.Compounds.{members_with}
 use Rattle.c_types.proofs.placing.members_with.Given as goal

@@ -1,3 +1,4 @@
+-- The places so far, and those of the rest.
 use Rattle.std.proofs.Common.{◌≡◌, ◌≤◌, ◌++◌, length, drop}
 use Rattle.c_types.specs.Layouts.{end_from, places_from, largest}
 use Rattle.c_types.proofs.placing.places_in_order.Given as goal

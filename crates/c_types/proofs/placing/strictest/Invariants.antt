@@ -1,3 +1,4 @@
+-- The alignment so far, and those of the rest.
 use Rattle.std.proofs.Common.{◌≡◌, drop}
 use Rattle.c_types.specs.Layouts.{strictest_from}
 use Rattle.c_types.proofs.placing.strictest.Given as goal

@@ -1,7 +1,17 @@
-use Rattle.std.proofs.Common.{◌<◌, ◌≤◌, length, arith}
-use Rattle.c_types.specs.CType.{all_types}
+-- Lists of parameters agree.
+use Rattle.std.proofs.Common.{◌≡◌, ◌<◌, ◌≤◌, length, arith, rules, ap, sym, ◌∙◌}
+use Rattle.c_types.specs.CType.{all_types, type_of}
+use Rattle.c_types.specs.declared.shape.TypeId.{TypeId}
+use Rattle.c_types.specs.Compatible.{agree}
+use Rattle.c_types.proofs.CompatibleLaws.{agree-own}
 use Rattle.c_types.proofs.Parameters.{lengths_differ, next_agree, next_differ, none_left}
 use Rattle.c_types.proofs.table.TypeTable.+agree.Goals as goal
+
+pub agree-returns-then-eq : goal.agree-returns-then-eq
+agree-returns-then-eq t c =
+    let same : c.args.a ≡ c.args.b = search rules in
+    sym (agree-own (type_of c.args.self.now c.args.a) c.args.strict)
+    ∙ ap (λ (b : TypeId). agree (type_of c.args.self.now c.args.a) (type_of c.args.self.now b) c.args.strict) same
 
 pub parameters_agree-returns-then-left-right : goal.parameters_agree-returns-then-left-right
 parameters_agree-returns-then-left-right t c =

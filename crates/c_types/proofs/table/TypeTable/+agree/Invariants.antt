@@ -1,3 +1,4 @@
+-- The parts of a type have lower ids; the parameters so far agree.
 use Rattle.std.proofs.Common.{◌≡◌, ◌+◌, ◌*◌, drop}
 use Rattle.c_types.specs.CType.{types_at, all_types}
 use Rattle.c_types.specs.Compatible.{all_agree}

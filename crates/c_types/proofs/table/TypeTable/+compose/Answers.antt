@@ -1,7 +1,9 @@
+-- The composite of two types, step by step.
 use Rattle.std.proofs.Common.{◌<◌, ◌≤◌, length, rules, arith, ap, ◌∙◌}
 use Rattle.std.proofs.lemmas.Result.{IfOk-weaker}
 use Rattle.c_types.specs.Types.{count_of}
 use Rattle.c_types.specs.CType.{type_of, all_types}
+use Rattle.c_types.specs.Structures.{structures_of}
 use Rattle.c_types.proofs.Composites.{keeps-first, keeps-second, same_lengths, agree_at}
 use Rattle.c_types.proofs.Composing.{adds-none, adds-then, agree_as, pointers_agree, functions_agree, array_shown, elements_agree, kept_array, composes_function, makes-none, makes-next, makes-all, lists_agree, below_at}
 use Rattle.c_types.proofs.table.TypeTable.+compose.Goals as goal
@@ -11,23 +13,25 @@ compose-compose-requires t c =
     let agrees = pointers_agree c.args.self.now c.args.a c.args.b _ _ c.in-Pointer.to c.in-Pointer-shape.other c.entry-left.ensures.shows c.entry-right.ensures.shows c.in-Pointer.is c.in-Pointer-shape.is c.requires.compatible in
     (search rules, (search rules, (search rules, agrees)))
 
-pub compose-push-requires-in-Some-clause-layout : goal.compose-push-requires-in-Some-clause-layout
-compose-push-requires-in-Some-clause-layout t c =
+pub compose-push_array-requires-clause-layout : goal.compose-push_array-requires-clause-layout
+compose-push_array-requires-clause-layout t c =
     let now = c.args.self.now in
     let type = array_shown now c.args.a c.in-Array.of c.in-Array.length _ c.entry-left.ensures.shows c.in-Array.is in
     let kept = kept_array now c.args.a c.in-Array.of c.in-Array.length _ _ c.entry-left.ensures.layout c.in-Array.is type in
     let made = c.in_ok-of-in-Array-shape.ensures.made in
-    keeps-first _ _ c.in-Array.length _ _ (type_of now c.in-Array.of) (type_of now c.in-Array-shape.other) _ now.compounds _ c.in-Some.is kept made.stands_for made.compounds
+    keeps-first _ _ c.in-Array.length _ _ (type_of now c.in-Array.of) (type_of now c.in-Array-shape.other) _ (structures_of now) _ c.in-Some.is kept
+    made.stands_for made.structures
 
-pub compose-push-requires-in-None-clause-layout : goal.compose-push-requires-in-None-clause-layout
-compose-push-requires-in-None-clause-layout t c =
+pub compose-push_array-requires-in-None-clause-layout : goal.compose-push_array-requires-in-None-clause-layout
+compose-push_array-requires-in-None-clause-layout t c =
     let now = c.args.self.now in
     let type = array_shown now c.args.a c.in-Array.of c.in-Array.length _ c.entry-left.ensures.shows c.in-Array.is in
-    let type' = array_shown now c.args.b c.in-Array-shape.other c.in-Array-shape.other_length _ c.entry-right.ensures.shows c.in-Array-shape.is in
-    let kept = kept_array now c.args.b c.in-Array-shape.other c.in-Array-shape.other_length _ _ c.entry-right.ensures.layout c.in-Array-shape.is type' in
-    let agrees = elements_agree _ _ _ _ _ _ type type' c.requires.compatible in
+    let type2 = array_shown now c.args.b c.in-Array-shape.other c.in-Array-shape.other_length _ c.entry-right.ensures.shows c.in-Array-shape.is in
+    let kept = kept_array now c.args.b c.in-Array-shape.other c.in-Array-shape.other_length _ _ c.entry-right.ensures.layout c.in-Array-shape.is type2 in
+    let agrees = elements_agree _ _ _ _ _ _ type type2 c.requires.compatible in
     let made = c.in_ok-of-in-Array-shape.ensures.made in
-    keeps-second _ _ c.in-Array-shape.other_length _ (type_of now c.in-Array.of) (type_of now c.in-Array-shape.other) _ now.compounds _ agrees kept made.stands_for made.compounds
+    keeps-second _ _ c.in-Array-shape.other_length _ (type_of now c.in-Array.of) (type_of now c.in-Array-shape.other) _ (structures_of now) _ agrees kept
+    made.stands_for made.structures
 
 pub compose-returns-in-Basic-clause-more : goal.compose-returns-in-Basic-clause-more
 compose-returns-in-Basic-clause-more t c = adds-none _
@@ -40,7 +44,7 @@ compose_functions-compose_parameters-requires t c =
 pub compose_functions-compose-requires : goal.compose_functions-compose-requires
 compose_functions-compose-requires t c =
     let old = c.args.self.now in
-    let kept = c.in_ok-parameters.ensures.made.types in
+    let kept = c.in_ok-parameters.ensures.made.grows.types in
     let p : c.gives-given.result.0 < count_of old = omega (arith, c.gives-given.ensures.below, c.requires.a) in
     let q : c.gives-other.result.0 < count_of old = omega (arith, c.gives-other.ensures.below, c.requires.b) in
     let agrees = functions_agree _ _ c.requires.a_function c.requires.b_function c.requires.compatible in
@@ -86,7 +90,7 @@ compose_parameters-compose-requires t c =
     let j : c.loop-i.i < length ys = omega (arith, i, lengths) in
     let x = below_at c.args.a.0 xs _ c.loop-i.i c.index.result.now c.in_ok-left.ensures.items c.parameters.ensures.below i c.index.ensures in
     let y = below_at c.args.b.0 ys _ c.loop-i.i c.index-in-loop-i.result.now c.in_ok-right.ensures.items c.parameters-2.ensures.below j c.index-in-loop-i.ensures in
-    let kept = c.loop-i.invariant.0.types in
+    let kept = c.loop-i.invariant.0.grows.types in
     let p : c.index.result.now.0 < count_of old = omega (arith, x, c.requires.a) in
     let q : c.index-in-loop-i.result.now.0 < count_of old = omega (arith, y, c.requires.b) in
     let here = agree_at (all_types old) xs ys c.loop-i.i c.index.result.now c.index-in-loop-i.result.now agrees i in
@@ -107,8 +111,13 @@ compose_parameters-loop-i-preserved t c =
     let y = below_at c.args.b.0 ys _ c.loop-i.i c.index-in-loop-i.result.now c.in_ok-right.ensures.items c.parameters-2.ensures.below j c.index-in-loop-i.ensures in
     let p : c.index.result.now.0 < count_of old = omega (arith, x, c.requires.a) in
     let q : c.index-in-loop-i.result.now.0 < count_of old = omega (arith, y, c.requires.b) in
-    let next = makes-next old c.loop-i.self c.compose.new.self c.loop-i.made.items c.push.new.self.items xs ys c.loop-i.i _ _ c.in_ok-id.id i j c.index.ensures c.index-in-loop-i.ensures p q c.loop-i.invariant.0 c.in_ok-id.ensures.made c.in_ok-push.ensures.items in
-    (next, adds-then old c.loop-i.self c.compose.new.self c.loop-i.invariant.1 c.compose.ensures.more)
+    let next = makes-next old c.loop-i.self c.compose.new.self c.unqualified.new.self c.loop-i.made.items c.push.new.self.items xs ys
+    c.loop-i.i _ _ c.in_ok-id.id c.in_ok-bare.bare i j c.index.ensures c.index-in-loop-i.ensures p q c.loop-i.invariant.0
+    c.in_ok-id.ensures.made c.in_ok-bare.ensures.made c.in_ok-push.ensures.items in (
+      next,
+      adds-then old c.loop-i.self c.unqualified.new.self c.loop-i.invariant.1
+          (adds-then c.loop-i.self c.compose.new.self c.unqualified.new.self c.compose.ensures.more c.in_ok-bare.ensures.more),
+    )
 
 pub compose_parameters-returns-clause-made : goal.compose_parameters-returns-clause-made
 compose_parameters-returns-clause-made t c =

@@ -1,3 +1,4 @@
+-- The parts of a type have lower ids; the composites of the parameters so far are made.
 use Rattle.std.proofs.Common.{◌+◌, ◌*◌, take}
 use Rattle.c_types.specs.CType.{types_at, all_types}
 use Rattle.c_types.specs.Composite.{all_composites, MakesTypes, AddsTypes}

@@ -1,3 +1,4 @@
+-- The elements of an array have lower ids.
 use Rattle.c_types.proofs.table.TypeTable.+qualify.Given as goal
 
 abbrev pub decreases-qualify : goal.decreases-qualify

@@ -1,3 +1,4 @@
+-- The layouts so far, and those of the rest, are all.
 use Rattle.std.proofs.Common.{◌≡◌, length, drop}
 use Rattle.c_types.specs.Layouts.{layouts_of, layouts_after}
 use Rattle.c_types.proofs.table.TypeTable.layouts.Given as goal

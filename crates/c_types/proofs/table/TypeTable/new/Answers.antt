@@ -1,3 +1,4 @@
+-- A new table is sound.
 use Rattle.std.proofs.Common.{subst, sym, ◌∙◌}
 use Rattle.c_types.specs.Inner.{IsSound}
 use Rattle.c_types.proofs.Fresh.{fresh_is, sound-fresh}

@@ -1,3 +1,4 @@
+-- The elements have the qualifiers of the array.
 use Rattle.std.proofs.Common.{◌≡◌, ◌<◌}
 use Rattle.c_types.specs.Types.{count_of}
 use Rattle.c_types.specs.CType.{type_of, quals_of}

@@ -1,0 +1,39 @@
+-- What is kept under the number of a structure or union.
+use Rattle.std.proofs.Common.{◌≡◌, ◌<◌, false, ap, subst, sym, arith, length, ◌∙◌}
+use Rattle.std.specs.Prelude.{Option, option_map}
+use Rattle.std.proofs.lemmas.List.{length-map}
+use Rattle.c_types.specs.declared.parts.Body.{Body}
+use Rattle.c_types.specs.Types.{Types}
+use Rattle.c_types.specs.CType.{all_types}
+use Rattle.c_types.specs.Structures.{Structure, structure_at, structures_of, body_has_const, typed_body}
+use Rattle.c_types.specs.Inner.{types_of, compound_of, body_of}
+use Rattle.c_types.proofs.Members.{structure-kept}
+use Rattle.c_types.proofs.table.TypeTable.has_const_member.Goals as goal
+
+pub returns-in-Some : goal.returns-in-Some
+returns-in-Some c =
+    let t = c.self.inside in
+    let n = c.args.number in
+    let there : n < length (types_of t).compounds =
+    subst (λ (x : Types). n < length x.compounds) (sym c.self.view_is) c.requires in
+    let below : n < length t.compounds.items = omega (arith, there, length-map t.compounds.items compound_of) in
+    let kept = structure-kept t n c.index.result.now below c.index.ensures in
+    subst (λ (x : Types). c.in-Some.body.has_const ≡ body_has_const (structure_at (structures_of x) n).body)
+    c.self.view_is
+    (sym (ap (λ (s : Structure). body_has_const s.body) kept
+    ∙ ap (λ (b : Option Body). body_has_const (option_map (typed_body (all_types (types_of t))) (option_map body_of b)))
+    c.in-Some.is))
+
+pub returns-in-None : goal.returns-in-None
+returns-in-None c =
+    let t = c.self.inside in
+    let n = c.args.number in
+    let there : n < length (types_of t).compounds =
+    subst (λ (x : Types). n < length x.compounds) (sym c.self.view_is) c.requires in
+    let below : n < length t.compounds.items = omega (arith, there, length-map t.compounds.items compound_of) in
+    let kept = structure-kept t n c.index.result.now below c.index.ensures in
+    subst (λ (x : Types). false ≡ body_has_const (structure_at (structures_of x) n).body)
+    c.self.view_is
+    (sym (ap (λ (s : Structure). body_has_const s.body) kept
+    ∙ ap (λ (b : Option Body). body_has_const (option_map (typed_body (all_types (types_of t))) (option_map body_of b)))
+    c.in-None.is))

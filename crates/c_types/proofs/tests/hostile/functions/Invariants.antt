@@ -1,0 +1,7 @@
+-- The type so far is one of the table.
+use Rattle.std.proofs.Common.{◌<◌, ◌≤◌}
+use Rattle.c_types.specs.Types.{count_of}
+use Rattle.c_types.proofs.tests.hostile.functions.Given as goal
+
+abbrev pub invariant-loop-_line : goal.invariant-loop-_line
+invariant-loop-_line l = (l.id.0 < count_of l.table) × (count_of l.fn.table ≤ count_of l.table)
