@@ -2,8 +2,9 @@
 
     python3 oracles/constants.py          writes the lines of the table
 
-Each line has an expression in postfix order, with a cast for each conversion of the core tree, and behind `=` its value,
-`undefined` where an operation in an evaluated part is undefined, or `none` where it is no integer constant expression.
+Each line has the value of an expression, `undefined` where an operation in an evaluated part is undefined, or `none` where
+it is no integer constant expression; and then the expression in postfix order, with each conversion of the core tree, which
+is a cast in C.
 Values and undefined operations are those of runs under the sanitizer of undefined behaviour, with each number read from a
 volatile object; which expressions are constant is what both compilers say under -pedantic-errors. The script stops where
 both disagree.
@@ -221,7 +222,7 @@ def main():
     for row in ROWS:
         first, second = answer("gcc", row), answer("clang", row)
         assert first == second, (row, first, second)
-        print('    "%s = %s",' % (row, first))
+        print('    "%s %s",' % (first, row))
     print("];")
 
 

@@ -2,7 +2,7 @@
 use Rattle.std.proofs.Common.{◌≡◌, ◌<◌, refl, arith}
 use Rattle.c_types.specs.declared.shape.TypeId.{TypeId}
 use Rattle.c_types.specs.CType.{type_of}
-use Rattle.c_types.specs.Making.{KeepsTypes}
+use Rattle.c_types.specs.Making.{Grows}
 use Rattle.c_types.specs.Types.{Types, count_of}
 use Rattle.c_core.specs.declared.expression.CoreExpr as e
 use Rattle.c_core.specs.declared.expression.CoreNode as n
@@ -17,12 +17,12 @@ use Rattle.c_core.specs.View.{node_of, cores_row, core_of}
 use Rattle.c_core.specs.ViewUnit.{action_of, statements_row, statement_of, definition_of, parameter_of}
 use Rattle.c_core.specs.Ids.{IdIn, NodeIn, RowIn, CoreIn, ActionIn, ItemsIn, StatementIn, FunctionIn}
 
-module _ (old new : Types) (grown : KeepsTypes old new) where
+module _ (old new : Types) (grown : Grows old new) where
   pub id_in_kept : (id : TypeId) → IdIn old id → IdIn new id
-  id_in_kept id h = let count = grown.count in omega arith
+  id_in_kept id h = let count = grown.types.count in omega arith
 
   pub type_kept : (id : TypeId) → IdIn old id → type_of new id ≡ type_of old id
-  type_kept id h = grown.same id h
+  type_kept id h = grown.types.same id h
 
   mutual
     pub node_kept : (node : n.CoreNode) → NodeIn old node → node_of new node ≡ node_of old node

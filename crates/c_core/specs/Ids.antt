@@ -54,6 +54,10 @@ abbrev mutual
 abbrev pub CoreIn : Types → e.CoreExpr → Type 0
 CoreIn types core = IdIn types core.of × NodeIn types core.node
 
+abbrev pub CoresIn : Types → List e.CoreExpr → Type 0
+CoresIn types [] = Unit {0}
+CoresIn types (first ∷ rest) = CoreIn types first × CoresIn types rest
+
 abbrev mutual
   pub ActionIn : Types → a.CoreAction → Type 0
   ActionIn types (a.Block' locals _ items) = ItemsIn types items
@@ -79,6 +83,10 @@ abbrev mutual
 
 abbrev pub StatementIn : Types → s.CoreStatement → Type 0
 StatementIn types statement = ActionIn types statement.action
+
+abbrev pub StatementsIn : Types → List s.CoreStatement → Type 0
+StatementsIn types [] = Unit {0}
+StatementsIn types (first ∷ rest) = StatementIn types first × StatementsIn types rest
 
 abbrev pub FunctionIn : Types → f.CoreFunction → Type 0
 FunctionIn types function = IdIn types function.of × StatementIn types function.body

@@ -3,7 +3,7 @@ use Rattle.std.specs.Prelude.{◌≡◌, ℕ, ◌<◌, ◌≤◌, Option, Some, 
 use Rattle.std.specs.Option.{option_map}
 use Rattle.acc_num.specs.declared.kind.IntKind.{IntKind}
 use Rattle.acc_num.specs.declared.kind.IntKind.TheVariants.{I32}
-use Rattle.c_types.specs.CType.{CType, Bare, Plain, Array, Basic', Pointer, Function, Compound, Enumerated}
+use Rattle.c_types.specs.CType.{CType, Bare, Plain, Array, BasicType, Pointer, Function, Compound, Enumerated}
 use Rattle.c_types.specs.declared.basic.Basic.{Basic}
 use Rattle.c_types.specs.declared.basic.Basic.TheVariants.{Void}
 use Rattle.c_types.specs.Layouts.{kind_of, bytes_of, largest}
@@ -16,7 +16,7 @@ use Rattle.c_core.specs.declared.form.Content.TheVariants as content
 
 -- the kind of an integer type; an enumerated type is an `int` (6.7.2.2p4)
 abbrev pub kind_in : CType → Option IntKind
-kind_in (Plain (Basic' basic) quals) = kind_of basic
+kind_in (Plain (BasicType basic) quals) = kind_of basic
 kind_in (Plain (Enumerated number) quals) = Some I32
 kind_in other = None
 
@@ -26,7 +26,7 @@ basic_form None = form.Nothing
 
 -- What a value of a type is; `void` has none, and an array or a function is no value (6.3.2.1).
 abbrev pub value_form : CType → Option Form
-value_form (Plain (Basic' basic) quals) = Some (basic_form (kind_of basic))
+value_form (Plain (BasicType basic) quals) = Some (basic_form (kind_of basic))
 value_form (Plain (Enumerated number) quals) = Some (form.Number I32)
 value_form (Plain (Pointer to) quals) = Some form.Pointer
 value_form (Plain (Compound number) quals) = Some form.Place
@@ -39,12 +39,12 @@ IsPointer other = ⊥
 
 -- an object may have the type (6.2.5p1), which need not be complete
 abbrev pub IsObject : CType → Type 0
-IsObject (Plain (Basic' Void) quals) = ⊥
+IsObject (Plain (BasicType Void) quals) = ⊥
 IsObject (Plain (Function gives parameters variadic) quals) = ⊥
 IsObject other = Unit {0}
 
 abbrev pub IsVoid : CType → Type 0
-IsVoid (Plain (Basic' Void) quals) = Unit {0}
+IsVoid (Plain (BasicType Void) quals) = Unit {0}
 IsVoid other = ⊥
 
 -- An expression with this type leaves this: a number of its kind, a pointer, an object by its place, or nothing.

@@ -23,3 +23,6 @@ pub use named::{FunctionName, LIBRARY_FUNCTIONS, ObjectName};
 pub use operator::{By, Change, Comparison, Operator, Relation, Stride};
 pub use statement::{Case, CoreAction, CoreStatement, Local};
 pub use static_object::{Address, Bounds, CoreStatic, Mark, Seal, StaticItem, StaticValue};
+
+#[cfg(test)]
+mod tests;
