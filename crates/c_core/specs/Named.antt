@@ -63,3 +63,9 @@ NamesFunction functions (function.Library number) = number < LIBRARY_FUNCTIONS
 
 abbrev pub with_objects : List Local → Names → Names
 with_objects locals names = record names { objects = opened locals names.objects }
+
+-- What could be named still can.
+pub record Widens (old new : Names) : Type 0 where
+  pub functions : (token : Pos) → IsSome (number_at token old.functions) → IsSome (number_at token new.functions)
+  pub statics : (token : Pos) → IsSome (number_at token old.statics) → IsSome (number_at token new.statics)
+  pub objects : (slot : ℕ) → IsSome (size_in slot old.objects) → IsSome (size_in slot new.objects)
