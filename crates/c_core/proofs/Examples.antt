@@ -1,5 +1,5 @@
 -- Core expressions and statements on either side of the rules.
-use Rattle.std.proofs.Common.{◌≡◌, ℕ, ◌<◌, ◌≤◌, true, false, List, [], ◌∷◌, Some, None, pos, refl, lit<, lit≤, arith}
+use Rattle.std.proofs.Common.{ℕ, ◌≤◌, true, false, List, [], ◌∷◌, Some, None, pos, refl, lit<, lit≤, arith}
 use Rattle.std.proofs.lemmas.Int.{ints}
 use Rattle.acc_num.specs.Numbers.{InRange}
 use Rattle.acc_num.specs.declared.kind.IntKind.TheVariants as k
@@ -115,7 +115,8 @@ no_static : CoreTyped names (At int (here 1) (tree.Object (object.Static (here 8
 no_static h = let differ = h.1 in cc
 
 -- `*p` is reached through the value of p, not through its place
-star : CoreTyped names (At int (here 1) (tree.Reached by.Star 4 4 (At (to int) (here 2) (tree.Load scalar.Pointer (local (to int) 2)))))
+star : CoreTyped names
+    (At int (here 1) (tree.Reached by.Star 4 4 (At (to int) (here 2) (tree.Load scalar.Pointer (local (to int) 2)))))
 star = (tt, ((lit< tt, lit≤ tt), lit< tt, lit≤ tt, refl, (tt, (refl, (tt, refl)))))
 
 unloaded : CoreTyped names (At int (here 1) (tree.Reached by.Star 4 4 (local (to int) 2))) → ⊥
@@ -126,25 +127,30 @@ no_size : CoreTyped names (At int (here 1) (tree.Reached by.Star 0 4 (At (to int
 no_size h = omega (arith, h.1.0.0)
 
 -- `x += 1L` works in `long`, `x += 1` without a conversion of the 1 doesn't
-added : CoreTyped names (At int (here 2) (tree.Update (change.Number operator.Add k.I32 k.I64) (local int 0) (one_long 1)))
+added : CoreTyped names
+    (At int (here 2) (tree.Update (change.Number operator.Add k.I32 k.I64) (local int 0) (one_long 1)))
 added = (refl, (refl, (tt, refl), refl, small_long 1 (lit≤ tt)))
 
-not_added : CoreTyped names (At int (here 2) (tree.Update (change.Number operator.Add k.I32 k.I64) (local int 0) (one 1))) → ⊥
+not_added : CoreTyped names
+    (At int (here 2) (tree.Update (change.Number operator.Add k.I32 k.I64) (local int 0) (one 1))) → ⊥
 not_added h = let differ = h.1.2 in cc
 
 -- ---- calls
 
 -- int f(int): f(1), used
-called : CoreTyped names (At int (here 3) (tree.Call true (Some (content.Scalar (scalar.Number k.I32))) (function of_int)
+called : CoreTyped names
+    (At int (here 3) (tree.Call true (Some (content.Scalar (scalar.Number k.I32))) (function of_int)
     (MoreCores (one 1) NoCore)))
 called = (refl, (refl, (tt, refl), (small 1 (lit≤ tt), tt), (refl, (refl, tt)), (lit< tt, lit≤ tt), tt))
 
 -- an argument is missing, or one too many
-missing : CoreTyped names (At int (here 3) (tree.Call true (Some (content.Scalar (scalar.Number k.I32))) (function of_int)
+missing : CoreTyped names
+    (At int (here 3) (tree.Call true (Some (content.Scalar (scalar.Number k.I32))) (function of_int)
     NoCore)) → ⊥
 missing h = h.1.3.1
 
-too_many : CoreTyped names (At int (here 3) (tree.Call true (Some (content.Scalar (scalar.Number k.I32))) (function of_int)
+too_many : CoreTyped names
+    (At int (here 3) (tree.Call true (Some (content.Scalar (scalar.Number k.I32))) (function of_int)
     (MoreCores (one 1) (MoreCores (one 1) NoCore)))) → ⊥
 too_many h = h.1.3.1.1
 
@@ -180,7 +186,9 @@ break_outside h = let differ = h in cc
 
 -- a `switch` may be left by `break`, and not gone on with by `continue`; a label may stand at its end and not beyond it
 abbrev switch : ℕ → Action → Statement
-switch at action = stands (unit.Switch (one 1) [] (MoreStatements (stands action) NoStatement) (record { value = pos 5; at = at } ∷ []) None)
+switch at action =
+    stands (unit.Switch (one 1) [] (MoreStatements (stands action) NoStatement)
+    (record { value = pos 5; at = at } ∷ []) None)
 
 five : InRange k.I32 (pos 5)
 five = record { least = record { le = tt }; greatest = record { le = tt } }

@@ -1,5 +1,5 @@
 -- Units, functions and static objects on either side of the rules.
-use Rattle.std.proofs.Common.{◌≡◌, ℕ, ◌<◌, ◌≤◌, false, List, [], ◌∷◌, Option, Some, None, pos, refl, lit<, lit≤, arith}
+use Rattle.std.proofs.Common.{ℕ, false, List, [], ◌∷◌, Some, None, pos, refl, lit<, lit≤, arith}
 use Rattle.acc_num.specs.declared.kind.IntKind.TheVariants as k
 use Rattle.critical_table.specs.declared.pos.Pos.{Pos}
 use Rattle.c_types.specs.declared.basic.Basic.TheVariants as basic
@@ -8,10 +8,10 @@ use Rattle.c_types.specs.CType as type
 use Rattle.c_types.specs.Types.{Types}
 use Rattle.c_core.specs.declared.form.Content.TheVariants as content
 use Rattle.c_core.specs.declared.form.Scalar.TheVariants as scalar
-use Rattle.c_core.specs.declared.static_object.Bounds.{Bounds}
 use Rattle.c_core.specs.Tree.{Core, At}
 use Rattle.c_core.specs.Tree as tree
-use Rattle.c_core.specs.TreeUnit.{Statement, Stands, Parameter, Definition, StaticValue, StaticNumber, StaticAddress, Static, Program}
+use Rattle.c_core.specs.TreeUnit.{Statement, Stands, Parameter, Definition, StaticValue, StaticNumber, StaticAddress}
+use Rattle.c_core.specs.TreeUnit.{Static, Program}
 use Rattle.c_core.specs.TreeUnit as unit
 use Rattle.c_core.specs.TypedUnit.{DefinitionTyped, StaticTyped, IsWellTyped}
 
@@ -58,7 +58,8 @@ object column value = record {
 one : StaticValue
 one = StaticNumber k.I32 (pos 1)
 
-defined : (name : List ℕ) (column : ℕ) (functions statics : List Pos) → DefinitionTyped functions statics (function column name Nil [])
+defined : (name : List ℕ) (column : ℕ) (functions statics : List Pos)
+    → DefinitionTyped functions statics (function column name Nil [])
 defined name column functions statics = record {
   type = (refl, tt);
   gives = (lit< tt, lit≤ tt);
@@ -89,7 +90,8 @@ two_mains types h = h.main
 
 -- int main(int x){return 0;}
 main_takes : (types : Types) → IsWellTyped (program types
-    (function 5 (109 ∷ 97 ∷ 105 ∷ 110 ∷ []) (Cons int Nil) (record { content = content.Scalar (scalar.Number k.I32); seals = [] } ∷ []) ∷ []) []) → ⊥
+    (function 5 (109 ∷ 97 ∷ 105 ∷ 110 ∷ []) (Cons int Nil)
+    (record { content = content.Scalar (scalar.Number k.I32); seals = [] } ∷ []) ∷ []) []) → ⊥
 main_takes types h = let differ = h.main.0 in cc
 
 -- static objects in the order of their tokens, and not in the other
@@ -111,7 +113,8 @@ beyond_end h = omega (arith, h.items.0)
 
 -- inside the bounds of a row, and not beyond them
 abbrev in_row : ℕ → StaticValue
-in_row offset = StaticAddress (record { object = here 7; offset = offset; bounds = Some (record { low = 4; high = 8 }) })
+in_row offset =
+    StaticAddress (record { object = here 7; offset = offset; bounds = Some (record { low = 4; high = 8 }) })
 
 row : StaticTyped [] (object 7 (in_row 8) ∷ []) (object 7 (in_row 8))
 row = record { size = (lit< tt, lit≤ tt); items = ((lit≤ tt, lit≤ tt, lit≤ tt), lit≤ tt, tt); seals = tt }

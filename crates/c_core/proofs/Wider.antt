@@ -1,5 +1,5 @@
 -- Where more functions, static objects and automatic objects can be named, what is well-typed stays so.
-use Rattle.std.proofs.Common.{◌≡◌, ℕ, List, [], ◌∷◌, Option, Some, None}
+use Rattle.std.proofs.Common.{List, [], ◌∷◌}
 use Rattle.std.specs.Prelude.{IsSome}
 use Rattle.critical_table.specs.declared.pos.Pos.{Pos}
 use Rattle.c_core.specs.declared.named.ObjectName.{ObjectName}
@@ -13,7 +13,8 @@ use Rattle.c_core.specs.Named.{Names, NamesObject, NamesFunction, Widens, number
 use Rattle.c_core.specs.Typed.{CoreTyped, NodeTyped, CoresTyped}
 use Rattle.c_core.specs.TreeUnit.{Statement, Stands, Action, Statements, NoStatement, MoreStatements, Definition}
 use Rattle.c_core.specs.TreeUnit as unit
-use Rattle.c_core.specs.TypedUnit.{Flow, in_loop, in_switch, StatementTyped, ActionTyped, StatementsTyped, parameter_objects, DefinitionTyped, DefinitionsTyped}
+use Rattle.c_core.specs.TypedUnit.{Flow, in_loop, in_switch, StatementTyped, ActionTyped, StatementsTyped}
+use Rattle.c_core.specs.TypedUnit.{parameter_objects, DefinitionTyped, DefinitionsTyped}
 
 module _ (old new : Names) (widens : Widens old new) where
   object_wider : (name : ObjectName) → NamesObject old name → NamesObject new name
@@ -52,11 +53,13 @@ module _ (old new : Names) (widens : Widens old new) where
     node_wider (tree.Compare comparison left right) h = (h.0, core_wider left h.1, h.2, core_wider right h.3)
     node_wider (tree.Same equal left right) h = (h.0, core_wider left h.1, h.2, core_wider right h.3)
     node_wider (tree.Order relation left right) h = (h.0, core_wider left h.1, h.2, core_wider right h.3)
-    node_wider (tree.Step stride number_first pointer number) h = (h.0, h.1, core_wider pointer h.2, h.3, core_wider number h.4)
+    node_wider (tree.Step stride number_first pointer number) h =
+        (h.0, h.1, core_wider pointer h.2, h.3, core_wider number h.4)
     node_wider (tree.Difference size left right) h = (h.0, h.1, core_wider left h.2, h.3, core_wider right h.4)
     node_wider (tree.AndAlso left right) h = (h.0, core_wider left h.1, h.2, core_wider right h.3)
     node_wider (tree.OrElse left right) h = (h.0, core_wider left h.1, h.2, core_wider right h.3)
-    node_wider (tree.Cond test first second) h = (h.0, core_wider test h.1, core_wider first h.2, h.3, core_wider second h.4)
+    node_wider (tree.Cond test first second) h =
+        (h.0, core_wider test h.1, core_wider first h.2, h.3, core_wider second h.4)
     node_wider (tree.Comma left right) h = (h.0, core_wider left h.1, core_wider right h.2)
     node_wider (tree.Assign scalar place value) h = (h.0, core_wider place h.1, h.2, core_wider value h.3)
     node_wider (tree.AssignWhole size place value) h = (h.0, h.1, core_wider place h.2, h.3, core_wider value h.4)
@@ -82,7 +85,7 @@ module _ (functions statics functions2 statics2 : List Pos)
   typed : (objects : List Local) (core : Core) → CoreTyped (old objects) core → CoreTyped (new objects) core
   typed objects core h =
       core_wider (old objects) (new objects)
-        (record { functions = more; statics = more_statics; objects = λ slot made. made }) core h
+      (record { functions = more; statics = more_statics; objects = λ slot made. made }) core h
 
   mutual
     pub statement_wider : (objects : List Local) (flow : Flow) (statement : Statement)

@@ -10,7 +10,8 @@ use Rattle.c_core.specs.Tree.{Core, At, Node}
 use Rattle.c_core.specs.Tree as tree
 use Rattle.c_core.specs.Operations.{operated, negated, flipped, compares, truth, is_shift}
 
--- An integer constant expression is made of numbers by conversions to integers, `+ - ~ !`, the operators on two numbers,
+-- An integer constant expression is made of numbers by conversions to integers, `+ - ~ !`, the operators on two
+-- numbers,
 -- `&&`, `||` and the conditional, whose operands are such expressions, evaluated or not (6.6p3, p6).
 abbrev mutual
   pub is_constant : Core → Bool
@@ -38,13 +39,15 @@ and_then (Err fault) go = Err fault
 abbrev pub truth_of : Result ℤ NumFault → Result ℤ NumFault
 truth_of outcome = and_then outcome (λ a. Ok (truth (not (is_zero a))))
 
--- The outcome of an operator on two numbers, each taken in the kind of the operation, but for the count of a shift. In a
+-- The outcome of an operator on two numbers, each taken in the kind of the operation, but for the count of a shift.
+-- In a
 -- well-typed tree they are of that kind (6.3.1.8, 6.5.7p3).
 abbrev pub operated_in : Operator → IntKind → ℤ → ℤ → Result ℤ NumFault
 operated_in operator kind a b =
     operated operator kind (converted_to kind a) (if is_shift operator then b else converted_to kind b)
 
--- The value, or why an operation in an evaluated part has none. The right part of `&&` and `||` that the left decides is
+-- The value, or why an operation in an evaluated part has none. The right part of `&&` and `||` that the left decides
+-- is
 -- not evaluated (6.5.13p4, 6.5.14p4), nor is the part of a conditional that is not chosen (6.5.15p4).
 abbrev mutual
   pub evaluated : Core → Result ℤ NumFault

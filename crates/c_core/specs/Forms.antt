@@ -1,6 +1,5 @@
 -- What an expression leaves for the one around it.
 use Rattle.std.specs.Prelude.{Option, Some, None}
-use Rattle.acc_num.specs.declared.kind.IntKind.{IntKind}
 use Rattle.acc_num.specs.declared.kind.IntKind.TheVariants.{I32, I64}
 use Rattle.c_core.specs.declared.form.Form.{Form}
 use Rattle.c_core.specs.declared.form.Form.TheVariants as form

@@ -26,21 +26,35 @@ abbrev mutual
   NodeIn types (n.Negate' kind _ of pos node) = IdIn types of × NodeIn types node
   NodeIn types (n.Flip' kind _ of pos node) = IdIn types of × NodeIn types node
   NodeIn types (n.Not' _ of pos node) = IdIn types of × NodeIn types node
-  NodeIn types (n.Arithmetic' operator kind _ of pos node _ of2 pos2 node2) = (IdIn types of × NodeIn types node) × (IdIn types of2 × NodeIn types node2)
-  NodeIn types (n.Compare' comparison _ of pos node _ of2 pos2 node2) = (IdIn types of × NodeIn types node) × (IdIn types of2 × NodeIn types node2)
-  NodeIn types (n.Same' equal _ of pos node _ of2 pos2 node2) = (IdIn types of × NodeIn types node) × (IdIn types of2 × NodeIn types node2)
-  NodeIn types (n.Order' relation _ of pos node _ of2 pos2 node2) = (IdIn types of × NodeIn types node) × (IdIn types of2 × NodeIn types node2)
-  NodeIn types (n.Step' stride number_first _ of pos node _ of2 pos2 node2) = (IdIn types of × NodeIn types node) × (IdIn types of2 × NodeIn types node2)
-  NodeIn types (n.Difference' size _ of pos node _ of2 pos2 node2) = (IdIn types of × NodeIn types node) × (IdIn types of2 × NodeIn types node2)
-  NodeIn types (n.AndAlso' _ of pos node _ of2 pos2 node2) = (IdIn types of × NodeIn types node) × (IdIn types of2 × NodeIn types node2)
-  NodeIn types (n.OrElse' _ of pos node _ of2 pos2 node2) = (IdIn types of × NodeIn types node) × (IdIn types of2 × NodeIn types node2)
-  NodeIn types (n.Cond' _ of pos node _ of2 pos2 node2 _ of3 pos3 node3) = (IdIn types of × NodeIn types node) × (IdIn types of2 × NodeIn types node2) × (IdIn types of3 × NodeIn types node3)
-  NodeIn types (n.Comma' _ of pos node _ of2 pos2 node2) = (IdIn types of × NodeIn types node) × (IdIn types of2 × NodeIn types node2)
-  NodeIn types (n.Assign' scalar _ of pos node _ of2 pos2 node2) = (IdIn types of × NodeIn types node) × (IdIn types of2 × NodeIn types node2)
-  NodeIn types (n.AssignWhole' size _ of pos node _ of2 pos2 node2) = (IdIn types of × NodeIn types node) × (IdIn types of2 × NodeIn types node2)
-  NodeIn types (n.Update' change _ of pos node _ of2 pos2 node2) = (IdIn types of × NodeIn types node) × (IdIn types of2 × NodeIn types node2)
+  NodeIn types (n.Arithmetic' operator kind _ of pos node _ of2 pos2 node2) = (IdIn types of × NodeIn types node)
+      × (IdIn types of2 × NodeIn types node2)
+  NodeIn types (n.Compare' comparison _ of pos node _ of2 pos2 node2) = (IdIn types of × NodeIn types node)
+      × (IdIn types of2 × NodeIn types node2)
+  NodeIn types (n.Same' equal _ of pos node _ of2 pos2 node2) = (IdIn types of × NodeIn types node)
+      × (IdIn types of2 × NodeIn types node2)
+  NodeIn types (n.Order' relation _ of pos node _ of2 pos2 node2) = (IdIn types of × NodeIn types node)
+      × (IdIn types of2 × NodeIn types node2)
+  NodeIn types (n.Step' stride number_first _ of pos node _ of2 pos2 node2) = (IdIn types of × NodeIn types node)
+      × (IdIn types of2 × NodeIn types node2)
+  NodeIn types (n.Difference' size _ of pos node _ of2 pos2 node2) = (IdIn types of × NodeIn types node)
+      × (IdIn types of2 × NodeIn types node2)
+  NodeIn types (n.AndAlso' _ of pos node _ of2 pos2 node2) = (IdIn types of × NodeIn types node)
+      × (IdIn types of2 × NodeIn types node2)
+  NodeIn types (n.OrElse' _ of pos node _ of2 pos2 node2) = (IdIn types of × NodeIn types node)
+      × (IdIn types of2 × NodeIn types node2)
+  NodeIn types (n.Cond' _ of pos node _ of2 pos2 node2 _ of3 pos3 node3) = (IdIn types of × NodeIn types node)
+      × (IdIn types of2 × NodeIn types node2) × (IdIn types of3 × NodeIn types node3)
+  NodeIn types (n.Comma' _ of pos node _ of2 pos2 node2) = (IdIn types of × NodeIn types node)
+      × (IdIn types of2 × NodeIn types node2)
+  NodeIn types (n.Assign' scalar _ of pos node _ of2 pos2 node2) = (IdIn types of × NodeIn types node)
+      × (IdIn types of2 × NodeIn types node2)
+  NodeIn types (n.AssignWhole' size _ of pos node _ of2 pos2 node2) = (IdIn types of × NodeIn types node)
+      × (IdIn types of2 × NodeIn types node2)
+  NodeIn types (n.Update' change _ of pos node _ of2 pos2 node2) = (IdIn types of × NodeIn types node)
+      × (IdIn types of2 × NodeIn types node2)
   NodeIn types (n.Postfix' change _ of pos node) = IdIn types of × NodeIn types node
-  NodeIn types (n.Call' used gives _ of pos node _ arguments) = (IdIn types of × NodeIn types node) × RowIn types arguments
+  NodeIn types (n.Call' used gives _ of pos node _ arguments) = (IdIn types of × NodeIn types node)
+      × RowIn types arguments
   NodeIn types (n.Copied' size _ of pos node) = IdIn types of × NodeIn types node
   NodeIn types n.Null = Unit {0}
   NodeIn types (n.Number kind value) = Unit {0}
@@ -66,7 +80,8 @@ abbrev mutual
   ActionIn types (a.InitializeBytes slot at bytes) = Unit {0}
   ActionIn types (a.Seal slot at len) = Unit {0}
   ActionIn types (a.Evaluate core) = CoreIn types core
-  ActionIn types (a.If' test _ pos first _ pos2 second) = CoreIn types test × ActionIn types first × ActionIn types second
+  ActionIn types (a.If' test _ pos first _ pos2 second) = CoreIn types test × ActionIn types first
+      × ActionIn types second
   ActionIn types (a.While' test _ pos turn) = CoreIn types test × ActionIn types turn
   ActionIn types (a.Do' _ pos turn test) = ActionIn types turn × CoreIn types test
   ActionIn types (a.For' test step _ pos turn) = CoreIn types test × CoreIn types step × ActionIn types turn

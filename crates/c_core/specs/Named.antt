@@ -1,5 +1,6 @@
 -- The objects and functions that names in a core tree stand for.
-use Rattle.std.specs.Prelude.{◌≡◌, ℕ, suc, ◌+◌, ◌<◌, ◌≤◌, ◌==◌, nat_lt, Bool, true, ◌&&◌, List, [], ◌∷◌, Option, Some, None, IsSome, IsSomeAnd, if◌then◌else◌}
+use Rattle.std.specs.Prelude.{◌≡◌, ℕ, suc, ◌+◌, ◌<◌, ◌≤◌, ◌==◌, nat_lt, Bool, true, ◌&&◌, List, [], ◌∷◌, Option, Some}
+use Rattle.std.specs.Prelude.{None, IsSome, IsSomeAnd, if◌then◌else◌}
 use Rattle.std.specs.Option.{option_map}
 use Rattle.critical_table.specs.declared.pos.Pos.{Pos}
 use Rattle.c_core.specs.declared.named.TheConstants.{LIBRARY_FUNCTIONS}
@@ -46,7 +47,8 @@ opened (local ∷ rest) objects = opened rest (local ∷ objects)
 abbrev pub LieIn : List Local → ℕ → ℕ → ℕ → Type 0
 LieIn objects slot at len = IsSomeAnd (size_in slot objects) (λ size. at + len ≤ size)
 
--- What an expression may name: the tokens of the unit's functions and static objects, and the objects that are made where
+-- What an expression may name: the tokens of the unit's functions and static objects, and the objects that are made
+-- where
 -- it stands.
 pub record Names : Type 0 where
   pub functions : List Pos

@@ -1,11 +1,12 @@
 -- What the operators make of numbers (6.5.3.3, 6.5.5 to 6.5.12): outcomes in a kind, on exact integers and on bits.
-use Rattle.std.specs.Prelude.{ℕ, ◌^◌, Bool, true, false, not, ◌&&◌, ℤ, pos, neg_ℤ, int_le, int_lt, unsigned_abs, Result, Ok, if◌then◌else◌}
+use Rattle.std.specs.Prelude.{ℕ, ◌^◌, Bool, true, false, not, ◌&&◌, ℤ, pos, neg_ℤ, int_le, int_lt, unsigned_abs}
+use Rattle.std.specs.Prelude.{Result, Ok, if◌then◌else◌}
 use Rattle.std.specs.Int.{int_rem_euclid}
 use Rattle.std.specs.Int.Bits.{bit_and, bit_or, bit_xor}
 use Rattle.acc_num.specs.declared.kind.IntKind.{IntKind}
 use Rattle.acc_num.specs.declared.fault.NumFault.{NumFault}
 use Rattle.acc_num.specs.Kinds.{width_of}
-use Rattle.acc_num.specs.Operations.{Add, Sub, Mul, Div, Rem, Shl, Shr, outcome_of, converted_to, is_zero}
+use Rattle.acc_num.specs.Operations.{Add, Sub, Mul, Div, Rem, Shl, Shr, outcome_of, converted_to}
 use Rattle.c_core.specs.declared.operator.Operator.{Operator}
 use Rattle.c_core.specs.declared.operator.Operator.TheVariants as o
 use Rattle.c_core.specs.declared.operator.Comparison.{Comparison}

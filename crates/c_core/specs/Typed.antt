@@ -85,7 +85,8 @@ abbrev mutual
   NodeTyped names (tree.Flip kind value) = (form_of value ≡ form.Number kind) × CoreTyped names value
   NodeTyped names (tree.Not value) = IsNumber (form_of value) × CoreTyped names value
   NodeTyped names (tree.Arithmetic operator kind left right) =
-      (form_of left ≡ form.Number kind) × CoreTyped names left × FitsRight operator kind (form_of right) × CoreTyped names right
+      (form_of left ≡ form.Number kind) × CoreTyped names left × FitsRight operator kind (form_of right)
+      × CoreTyped names right
   NodeTyped names (tree.Compare comparison left right) =
       IsNumber (form_of left) × CoreTyped names left × (form_of right ≡ form_of left) × CoreTyped names right
   NodeTyped names (tree.Same equal left right) =
@@ -93,21 +94,26 @@ abbrev mutual
   NodeTyped names (tree.Order relation left right) =
       (form_of left ≡ form.Pointer) × CoreTyped names left × (form_of right ≡ form.Pointer) × CoreTyped names right
   NodeTyped names (tree.Step stride number_first pointer number) =
-      IsStride stride × (form_of pointer ≡ form.Pointer) × CoreTyped names pointer × IsNumber (form_of number) × CoreTyped names number
+      IsStride stride × (form_of pointer ≡ form.Pointer) × CoreTyped names pointer × IsNumber (form_of number)
+      × CoreTyped names number
   NodeTyped names (tree.Difference size left right) =
-      IsSize size × (form_of left ≡ form.Pointer) × CoreTyped names left × (form_of right ≡ form.Pointer) × CoreTyped names right
+      IsSize size × (form_of left ≡ form.Pointer) × CoreTyped names left × (form_of right ≡ form.Pointer)
+      × CoreTyped names right
   NodeTyped names (tree.AndAlso left right) =
       IsNumber (form_of left) × CoreTyped names left × IsNumber (form_of right) × CoreTyped names right
   NodeTyped names (tree.OrElse left right) =
       IsNumber (form_of left) × CoreTyped names left × IsNumber (form_of right) × CoreTyped names right
   NodeTyped names (tree.Cond test first second) =
-      IsNumber (form_of test) × CoreTyped names test × CoreTyped names first × (form_of second ≡ form_of first) × CoreTyped names second
+      IsNumber (form_of test) × CoreTyped names test × CoreTyped names first × (form_of second ≡ form_of first)
+      × CoreTyped names second
   NodeTyped names (tree.Comma left right) =
       (form_of left ≡ form.Nothing) × CoreTyped names left × CoreTyped names right
   NodeTyped names (tree.Assign scalar place value) =
-      (form_of place ≡ form.Place) × CoreTyped names place × (form_of value ≡ scalar_form scalar) × CoreTyped names value
+      (form_of place ≡ form.Place) × CoreTyped names place × (form_of value ≡ scalar_form scalar)
+      × CoreTyped names value
   NodeTyped names (tree.AssignWhole size place value) =
-      IsSize size × (form_of place ≡ form.Place) × CoreTyped names place × (form_of value ≡ form.Place) × CoreTyped names value
+      IsSize size × (form_of place ≡ form.Place) × CoreTyped names place × (form_of value ≡ form.Place)
+      × CoreTyped names value
   NodeTyped names (tree.Update change place number) =
       (form_of place ≡ form.Place) × CoreTyped names place × FitsChange change (form_of number) × CoreTyped names number
   NodeTyped names (tree.Postfix change place) = IsStep change × (form_of place ≡ form.Place) × CoreTyped names place

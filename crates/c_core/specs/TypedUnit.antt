@@ -1,5 +1,6 @@
 -- Well-typed statements, functions, static objects and units.
-use Rattle.std.specs.Prelude.{◌≡◌, ℕ, suc, ◌+◌, ◌<◌, ◌≤◌, Bool, true, false, List, [], ◌∷◌, length, map, Option, Some, None, IsSomeAnd, IfSome, if◌then◌else◌}
+use Rattle.std.specs.Prelude.{◌≡◌, ℕ, suc, ◌+◌, ◌<◌, ◌≤◌, Bool, true, false, List, [], ◌∷◌, length, map, Option, Some}
+use Rattle.std.specs.Prelude.{None, IsSomeAnd, IfSome, if◌then◌else◌}
 use Rattle.std.specs.Str.{bytes_eq}
 use Rattle.acc_num.specs.Numbers.{InRange}
 use Rattle.acc_num.specs.declared.kind.IntKind.{IntKind}
@@ -7,7 +8,7 @@ use Rattle.acc_num.specs.declared.kind.IntKind.TheVariants.{I32}
 use Rattle.critical_table.specs.declared.pos.Pos.{Pos}
 use Rattle.c_types.specs.CType.{CType, CTypes, Plain, Nil, Cons}
 use Rattle.c_types.specs.CType as type
-use Rattle.c_types.specs.Layouts.{largest, bytes_of}
+use Rattle.c_types.specs.Layouts.{bytes_of}
 use Rattle.c_core.specs.declared.form.Form.{Form}
 use Rattle.c_core.specs.declared.form.Form.TheVariants as form
 use Rattle.c_core.specs.declared.form.Scalar.TheVariants as scalar
@@ -17,10 +18,10 @@ use Rattle.c_core.specs.declared.function.Range.{Range}
 use Rattle.c_core.specs.declared.statement.Local.{Local}
 use Rattle.c_core.specs.declared.statement.Case.{Case}
 use Rattle.c_core.specs.declared.static_object.Bounds.{Bounds}
-use Rattle.c_core.specs.declared.static_object.Address.{Address}
 use Rattle.c_core.specs.declared.static_object.Seal.{Seal}
-use Rattle.c_core.specs.Tree.{Core}
-use Rattle.c_core.specs.TreeUnit.{Statement, Stands, Action, Statements, NoStatement, MoreStatements, Parameter, Definition, StaticValue, StaticNumber, StaticNull, StaticAddress, StaticFunction, StaticBytes, StaticItem, Static, Program}
+use Rattle.c_core.specs.TreeUnit.{Statement, Stands, Action, Statements, NoStatement, MoreStatements, Parameter}
+use Rattle.c_core.specs.TreeUnit.{Definition, StaticValue, StaticNumber, StaticNull, StaticAddress, StaticFunction}
+use Rattle.c_core.specs.TreeUnit.{StaticBytes, StaticItem, Static, Program}
 use Rattle.c_core.specs.TreeUnit as unit
 use Rattle.c_core.specs.Forms.{scalar_form, content_form, given_form, form_of}
 use Rattle.c_core.specs.Types.{value_form, IsNumber, IsSize, IsGiven, content_size}
@@ -50,7 +51,8 @@ in_switch flow = record flow { breaks = true }
 abbrev pub AreFresh : ℕ → List Local → List Local → Type 0
 AreFresh slots [] objects = Unit {0}
 AreFresh slots (local ∷ rest) objects =
-    (local.slot < slots) × IsSize local.size × (size_in local.slot objects ≡ None) × AreFresh slots rest (local ∷ objects)
+    (local.slot < slots) × IsSize local.size × (size_in local.slot objects ≡ None)
+    × AreFresh slots rest (local ∷ objects)
 
 abbrev pub AreBytes : List ℕ → Type 0
 AreBytes [] = Unit {0}
@@ -91,7 +93,8 @@ abbrev mutual
   ActionTyped names flow (unit.SealBytes slot at len) = (0 < len) × LieIn names.objects slot at len
   ActionTyped names flow (unit.Evaluate core) = (form_of core ≡ form.Nothing) × CoreTyped names core
   ActionTyped names flow (unit.If test first second) =
-      IsNumber (form_of test) × CoreTyped names test × StatementTyped names flow first × StatementTyped names flow second
+      IsNumber (form_of test) × CoreTyped names test × StatementTyped names flow first
+      × StatementTyped names flow second
   ActionTyped names flow (unit.While test turn) =
       IsNumber (form_of test) × CoreTyped names test × StatementTyped names (in_loop flow) turn
   ActionTyped names flow (unit.Do turn test) =
@@ -130,7 +133,8 @@ LieWithin size (range ∷ rest) = (0 < range.len) × (range.at + range.len ≤ s
 abbrev pub ParametersTyped : List Parameter → Type 0
 ParametersTyped [] = Unit {0}
 ParametersTyped (parameter ∷ rest) =
-    IsSize (content_size parameter.content) × LieWithin (content_size parameter.content) parameter.seals × ParametersTyped rest
+    IsSize (content_size parameter.content) × LieWithin (content_size parameter.content) parameter.seals
+    × ParametersTyped rest
 
 -- each parameter holds what a value of its type is
 abbrev pub AreTaken : CTypes → List Parameter → Type 0
@@ -190,7 +194,8 @@ ValueTyped functions statics (StaticBytes bytes) = AreBytes bytes × (0 < length
 abbrev pub ItemsTyped : List Pos → List Static → ℕ → List StaticItem → Type 0
 ItemsTyped functions statics size [] = Unit {0}
 ItemsTyped functions statics size (item ∷ rest) =
-    ValueTyped functions statics item.value × (item.at + value_size item.value ≤ size) × ItemsTyped functions statics size rest
+    ValueTyped functions statics item.value × (item.at + value_size item.value ≤ size)
+    × ItemsTyped functions statics size rest
 
 abbrev pub SealsTyped : ℕ → List Seal → Type 0
 SealsTyped size [] = Unit {0}

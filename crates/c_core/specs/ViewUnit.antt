@@ -1,5 +1,5 @@
 -- What the program holds as core statements, functions and static objects.
-use Rattle.std.specs.Prelude.{List, [], ◌∷◌, map}
+use Rattle.std.specs.Prelude.{List, map}
 use Rattle.c_types.specs.CType.{type_of}
 use Rattle.c_types.specs.Types.{Types}
 use Rattle.c_core.specs.declared.statement.CoreAction as n
@@ -11,7 +11,9 @@ use Rattle.c_core.specs.declared.static_object.StaticItem as i
 use Rattle.c_core.specs.declared.static_object.StaticValue as v
 use Rattle.c_core.specs.declared.static_object.StaticValue.TheVariants as value
 use Rattle.c_core.specs.View.{core_of}
-use Rattle.c_core.specs.TreeUnit.{Statement, Stands, Action, Statements, NoStatement, MoreStatements, Parameter, Definition, StaticValue, StaticNumber, StaticNull, StaticAddress, StaticFunction, StaticBytes, StaticItem, Static, Program}
+use Rattle.c_core.specs.TreeUnit.{Statement, Stands, Action, Statements, NoStatement, MoreStatements, Parameter}
+use Rattle.c_core.specs.TreeUnit.{Definition, StaticValue, StaticNumber, StaticNull, StaticAddress, StaticFunction}
+use Rattle.c_core.specs.TreeUnit.{StaticBytes, StaticItem, Static, Program}
 use Rattle.c_core.specs.TreeUnit as tree
 
 abbrev mutual

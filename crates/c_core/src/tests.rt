@@ -1,8 +1,8 @@
 //! Tests of `constant` over a table of constant expressions, and of a whole unit.
 use super::*;
 use acc_num::IntKind;
-use c_types::{TypeId, TypeTable};
-use critical_table::Pos;
+use c_types::{Basic, TypeId, TypeTable};
+use critical_table::{Name, Pos};
 use std::alloc::Global;
 use std::test::Fail;
 
@@ -162,10 +162,7 @@ fn leaf(alloc: Global, name: &str) -> Result<CoreNode, Fail> {
             let gives = Some(Content::Scalar(int));
             Ok(CoreNode::Call(true, gives, function, Vec::new(alloc)))
         }
-        _ => Ok(CoreNode::IsNull(boxed(
-            alloc,
-            CoreNode::AddressOf(object(alloc)?),
-        )?)),
+        _ => Ok(CoreNode::IsNull(boxed(alloc, CoreNode::AddressOf(object(alloc)?))?)),
     }
 }
 
@@ -224,10 +221,7 @@ fn binary(
     match name {
         "andalso" => Ok(CoreNode::AndAlso(left, right)),
         "orelse" => Ok(CoreNode::OrElse(left, right)),
-        "comma" => Ok(CoreNode::Comma(
-            boxed(alloc, CoreNode::Discard(left))?,
-            right,
-        )),
+        "comma" => Ok(CoreNode::Comma(boxed(alloc, CoreNode::Discard(left))?, right)),
         _ => match operator_of(name) {
             Some(operator) => Ok(CoreNode::Arithmetic(operator, kind, left, right)),
             None => Ok(CoreNode::Compare(comparison_of(name), left, right)),
@@ -290,5 +284,35 @@ fn gives_the_values_of_gcc_and_clang(rt: HostRuntime) -> Result<(), Fail> {
         assert_eq!(rt; constant(&types, &built), expected, "{line}");
         assert_eq!(rt; operands.len(), 0, "{line}");
     }
+    Ok(())
+}
+
+// int main(void){return 0;}
+#[test]
+fn keeps_a_unit(rt: HostRuntime) -> Result<(), Fail> {
+    let mut types = TypeTable::new(rt.alloc())?;
+    let int = types.basic(Basic::Int);
+    let of = types.function(int, &[], false)?;
+    let pos = Pos { line: 1, column: 5 };
+    let node = CoreNode::Number(IntKind::I32, 0);
+    let zero = CoreExpr { of: int, pos, node };
+    let mut functions = Vec::new(rt.alloc());
+    functions.push(CoreFunction {
+        token: pos,
+        name: Name::new(rt.alloc(), b"main")?,
+        of,
+        parameters: Vec::new(rt.alloc()),
+        gives: Some(Content::Scalar(Scalar::Number(IntKind::I32))),
+        slots: 0,
+        body: CoreStatement {
+            pos,
+            action: CoreAction::ReturnValue(zero),
+        },
+    })?;
+    let core = Core::new(types, functions, Vec::new(rt.alloc()));
+    core.typed_law();
+    assert_eq!(rt; core.functions().len(), 1);
+    assert_eq!(rt; core.statics().len(), 0);
+    assert_eq!(rt; core.types().size_of(int), Some(4));
     Ok(())
 }
