@@ -1,6 +1,6 @@
 #!/usr/bin/env bash
-# How fast the proved lexer reads: bytes per second of units of 1, 2 and 4 MiB, and whether twice the bytes take twice the
-# time. It builds a small program over c_lexer in a folder of its own, and changes nothing here.
+# How fast the proved lexer reads: bytes per second of units of 1, 2 and 4 MiB, and whether twice the bytes take twice
+# the time. It builds a small program over c_lexer in a folder of its own.
 set -eu
 work=$(mktemp -d)
 trap 'rm -rf "$work"' EXIT
@@ -27,14 +27,18 @@ fn main(rt: HostRuntime) -> ExitCode {
     ExitCode::from(0)
 }
 PROGRAM
-program=$(sed "s/TURNS/$turns/" "$work/main.rt" | "$(dirname "$0")/program.sh" "$work/repository" c_lexer)
+bench=$(dirname "$(readlink -f "$0")")
+program=$(sed "s/TURNS/$turns/" "$work/main.rt" | "$bench/program.sh" "$work/repository" c_lexer)
 
 # a function with names, numbers, marks, a literal, a character and comments, again and again
 part='/* adds */ static int add_one(const char *s, long n) { int v = 0x1Fu + 42; if (*s == '"'\\n'"') v <<= 2; // twice
   return v + (int)n * 3 - puts("text \" more"); }
 '
 printf '%s' "$part" >"$work/part"
-while [ "$(stat -c %s "$work/part")" -lt 4194304 ]; do cat "$work/part" "$work/part" >"$work/more" && mv "$work/more" "$work/part"; done
+while [ "$(stat -c %s "$work/part")" -lt 4194304 ]; do
+  cat "$work/part" "$work/part" >"$work/more"
+  mv "$work/more" "$work/part"
+done
 for size in 1048576 2097152 4194304; do
   # the last part may be cut inside a comment or a literal, so the unit ends with blanks
   lines=$(head -c $((size - 200)) "$work/part" | wc -l)
@@ -49,7 +53,9 @@ for size in 1048576 2097152 4194304; do
   "$program" <"$work/unit.$size"
   took=$((($(date +%s%N) - start) / 1000))
   printf '%8d bytes, %d times: %7d bytes a millisecond' "$size" "$turns" $((size * turns * 1000 / took))
-  [ "$before" = 0 ] || printf ', %d.%02d times as long as half the bytes' $((took / before)) $((took * 100 / before % 100))
+  if [ "$before" != 0 ]; then
+    printf ', %d.%02d times as long as half the bytes' $((took / before)) $((took * 100 / before % 100))
+  fi
   printf '\n'
   before=$took
 done

@@ -1,12 +1,13 @@
 #!/usr/bin/env bash
 # How fast the proved lexer and parser read: tokens per second, whether twice the tokens take twice the time, and the
-# greatest memory for each token. One unit repeats a function, another declares as many names as it can. It builds a small
-# program over c_parser in a folder of its own, and changes nothing here.
+# greatest memory for each token. One unit repeats a function, another declares as many names as it can. It builds a
+# small program over c_parser in a folder of its own.
 set -eu
 work=$(mktemp -d)
 trap 'rm -rf "$work"' EXIT
 
-program=$("$(dirname "$0")/program.sh" "$work/repository" c_lexer c_parser <<'PROGRAM'
+bench=$(dirname "$(readlink -f "$0")")
+program=$("$bench/program.sh" "$work/repository" c_lexer c_parser <<'PROGRAM'
 //! Parses what stands on its input, and writes how many tokens it has.
 #![tactic(auto)]
 
@@ -37,7 +38,8 @@ PROGRAM
 cat >"$work/make.py" <<'MAKE'
 import sys
 size, kind = int(sys.argv[1]), sys.argv[2]
-function = ('static int f%d(const char *s, long n) { int v = 0x1Fu + 42; while (*s == 1) { if (v < n) v <<= 2; else s++; }'
+function = ('static int f%d(const char *s, long n) { int v = 0x1Fu + 42;'
+            ' while (*s == 1) { if (v < n) v <<= 2; else s++; }'
             ' for (int i = 0; i < 3; i++) { v += (int)n * 3 - puts("text" " more"); } return v ? v : n; }\n')
 names = 'int a%d, *b%d;\n'
 n = length = 0
@@ -64,7 +66,8 @@ if answer.returncode != 0:
     sys.exit('%s ended with %d' % (program, answer.returncode))
 tokens = int(answer.stdout)
 memory = resource.getrusage(resource.RUSAGE_CHILDREN).ru_maxrss * 1024
-line = '%s: %8d tokens: %8d tokens a second, %4d bytes of memory a token' % (kind, tokens, tokens / seconds, memory / tokens)
+line = '%s: %8d tokens: %8d tokens a second, ' % (kind, tokens, tokens / seconds)
+line += '%4d bytes of memory a token' % (memory / tokens)
 if before != '0':
     line += ', %.2f times as long as half of them' % (seconds / float(before))
 print(line)

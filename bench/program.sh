@@ -1,17 +1,20 @@
 #!/usr/bin/env bash
-# Builds the program that stands on the input, over the crates named and those below them, in a folder of its own, and
-# prints where it is: program.sh FOLDER CRATE..
+# Builds the program that stands on the input, over the crates named and those that they stand on, in a folder of its
+# own, and prints where it is: program.sh FOLDER CRATE..
+#
+# The crates are proved and built in this repository first, and stay so: only the first run takes long.
 set -eu
-top=$(cd "$(dirname "$0")/.." && pwd)
+top=$(dirname "$(dirname "$(readlink -f "$0")")")
 folder=$1
 shift
 
+"$top/tools/build_crates.sh" "$top" "$@"
 mkdir -p "$folder/crates/program/src"
-tar -C "$top" --exclude=out -cf - HANDLES crates.txt crates | tar -C "$folder" -xf -
-echo "program: $*" >>"$folder/crates.txt"
 cat >"$folder/crates/program/src/main.rt"
-cd "$folder/crates/program"
-# it is run too, on no input, whatever its status then is
-rt run </dev/null >"$folder/log" 2>&1 || true
-[ -x out/program ] || { cat "$folder/log" >&2; exit 1; }
+cp "$top/HANDLES" "$top/crates.txt" "$folder"
+echo "program: $*" >>"$folder/crates.txt"
+for crate in $("$top/tools/needed_crates.sh" "$top" "$@"); do
+  tar -C "$top/crates" --exclude=out -cf - "$crate" | tar -C "$folder/crates" -xf -
+done
+"$top/tools/build_crates.sh" "$folder" program
 echo "$folder/crates/program/out/program"

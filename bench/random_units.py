@@ -1,4 +1,4 @@
-"""Writes random units of C, ended by null bytes: a third follow the grammar, the others do but for one to three tokens."""
+"""Writes random units of C, ended by null bytes. A third follow the grammar, the others but for one to three tokens."""
 import random
 import sys
 
@@ -9,15 +9,16 @@ BEGINNING = 'typedef int T ; int a , b , c , d ;'.split()
 GRAMMAR = {
     'unit': ['external', 'external external external'],
     'external': ['declaration', 'specifiers declarator block', 'specifiers name ( parameters ) block'],
-    'declaration': ['specifiers inits ;', 'specifiers inits ;', 'specifiers inits ;', 'typedef specifiers name ;', 'specifiers ;',
-                    '_Static_assert ( test , "s" ) ;'],
+    'declaration': ['specifiers inits ;', 'specifiers inits ;', 'specifiers inits ;', 'typedef specifiers name ;',
+                    'specifiers ;', '_Static_assert ( test , "s" ) ;'],
     'inits': ['init', 'init', 'init , inits'],
     'init': ['declarator', 'declarator = initializer'],
     'initializer': ['operand', 'assigned', '{ items }', '{ items , }'],
     'items': ['initializer', '. name = initializer', '[ test ] = initializer', 'items , items'],
     'specifiers': ['type', 'type', 'qualifier type', 'type qualifier'],
     'qualifier': ['const', 'volatile'],
-    'type': ['int', 'T', 'T', 'unsigned long', 'struct s', 'union tag { members }', 'enum tag { enumerators }', 'enum T'],
+    'type': ['int', 'T', 'T', 'unsigned long', 'struct s', 'union tag { members }', 'enum tag { enumerators }',
+             'enum T'],
     'tag': ['', 's', 'T'],
     'members': ['specifiers declarator ;', 'specifiers declarator , declarator ; members', 'specifiers ;'],
     'enumerators': ['name', 'name = test', 'enumerators , enumerators', 'name ,'],
@@ -28,22 +29,26 @@ GRAMMAR = {
     'parameters': ['', 'void', 'parameter', 'parameter , parameter', 'parameter , ...'],
     'parameter': ['specifiers abstract', 'specifiers declarator', 'specifiers ( name )'],
     'name': ['a', 'e', 'f', 'g', 'h', 'k', 'm', 'T'],
-    'test': ['1', 'a', 'operand', 'test + test', 'test ? test : test', 'test && test', 'sizeof ( specifiers abstract )'],
-    'operand': ['a', 'b', 'c', '1', '"s"', "'c'", 'f', '( expression )', 'operand [ expression ]', 'operand ( assigned , assigned )',
-                'operand . name', 'operand -> name', 'operand ++', '- operand', '* operand', '& operand', '-- operand',
+    'test': ['1', 'a', 'operand', 'test + test', 'test ? test : test', 'test && test',
+             'sizeof ( specifiers abstract )'],
+    'operand': ['a', 'b', 'c', '1', '"s"', "'c'", 'f', '( expression )', 'operand [ expression ]',
+                'operand ( assigned , assigned )', 'operand . name', 'operand -> name', 'operand ++', '- operand',
+                '* operand', '& operand', '-- operand',
                 'sizeof operand', 'sizeof ( specifiers abstract )', '( specifiers abstract ) operand', '( T ) operand'],
     'assigned': ['operand', 'operand + operand', 'operand * operand', 'operand << operand', 'operand == operand',
                  'operand || operand', 'operand = assigned', 'operand ? expression : operand', 'assigned - assigned'],
     'expression': ['assigned', 'assigned', 'assigned , expression'],
     'block': ['{ }', '{ item item item item }'],
     'item': ['statement', 'statement', 'declaration'],
-    'statement': ['expression ;', 'expression ;', 'T * a ;', 'a * b ;', 'T ( a ) ;', ';', 'block', 'if ( expression ) statement',
-                  'if ( expression ) statement else statement', 'while ( expression ) statement',
+    'statement': ['expression ;', 'expression ;', 'T * a ;', 'a * b ;', 'T ( a ) ;', ';', 'block',
+                  'if ( expression ) statement', 'if ( expression ) statement else statement',
+                  'while ( expression ) statement',
                   'do statement while ( expression ) ;', 'for ( expression ; ; expression ) statement',
                   'for ( declaration ; ) statement', 'return expression ;', 'return ;', 'break ;',
                   'switch ( expression ) { case test : item default : statement }'],
 }
-TOKENS = sorted({token for forms in GRAMMAR.values() for form in forms for token in form.split() if token not in GRAMMAR})
+WORDS = {word for forms in GRAMMAR.values() for form in forms for word in form.split()}
+TOKENS = sorted(WORDS - GRAMMAR.keys())
 
 
 def tokens_of(word, depth):

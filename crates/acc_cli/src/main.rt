@@ -1,9 +1,12 @@
 //! `acc`: does what the words of its command line ask for. All that matters is in `acc_main`.
 #![tactic(auto)]
 
+mod exit;
+
 use acc_io::{FileShelf, MemSource, Streams, WriteSink};
-use acc_run::{Words, acc_main};
-use critical_table::{Ended, status_of};
+use acc_run::Words;
+use critical_table::Ended;
+use exit::{exit_code, run};
 use std::alloc::AllocError;
 use std::process::ExitCode;
 use std::{env, io};
@@ -25,7 +28,7 @@ fn command_line(rt: &HostRuntime) -> Result<Words, AllocError> {
 
 fn main(rt: HostRuntime) -> ExitCode {
     let Ok(words) = command_line(&rt) else {
-        return ExitCode::from(status_of(&Ended::Memory));
+        return exit_code(&Ended::Memory);
     };
     let mut shelf = FileShelf::new(&rt);
     let streams = Streams {
@@ -33,6 +36,6 @@ fn main(rt: HostRuntime) -> ExitCode {
         out: WriteSink::new(rt.stdout()),
         err: WriteSink::new(rt.stderr()),
     };
-    let (ended, _streams) = acc_main(rt.alloc(), &words, &mut shelf, streams);
-    ExitCode::from(status_of(&ended))
+    let (code, _streams) = run(rt.alloc(), &words, &mut shelf, streams);
+    code
 }

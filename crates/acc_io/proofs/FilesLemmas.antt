@@ -1,5 +1,6 @@
 -- How the first file of a name is found.
-use Rattle.std.proofs.Common.{◌≡◌, ℕ, ◌+◌, ◌<◌, ◌≤◌, List, length, drop, get_or, Bool, true, false, Some, None, refl, String, Vec, string_bytes, if◌then◌else◌, sym, ◌∙◌, ap}
+use Rattle.std.proofs.Common.{◌≡◌, ℕ, ◌+◌, ◌<◌, ◌≤◌, List, length, drop, get_or, Bool, true, false, Some, None, refl}
+use Rattle.std.proofs.Common.{String, Vec, string_bytes, if◌then◌else◌, sym, ◌∙◌, ap}
 use Rattle.std.proofs.lemmas.List.{drop_more, drop_all}
 use Rattle.std.proofs.lemmas.Option.{slice_get_read}
 use Rattle.std.specs.Str.{bytes_eq}
@@ -15,10 +16,12 @@ file_of-drop : {Y Z : Type 0} (files : List (String Y × Vec ℕ Z)) (name : Lis
     else file_of (files_of (drop (i + 1) files)) name)
 file_of-drop {Y} {Z} files name i item below is =
     rw (drop_more files i item below)
-    (ap (λ (it : String Y × Vec ℕ Z). if bytes_eq (string_bytes it.0) name then Some it.1.items else file_of (files_of (drop (i + 1) files)) name) (sym is))
+    (ap (λ (it : String Y × Vec ℕ Z). if bytes_eq (string_bytes it.0) name then Some it.1.items
+    else file_of (files_of (drop (i + 1) files)) name) (sym is))
 
 -- a file of another name is passed by
-pub file_of-pass : {Y Z : Type 0} (files : List (String Y × Vec ℕ Z)) (name : List ℕ) (i : ℕ) (item : String Y × Vec ℕ Z)
+pub file_of-pass : {Y Z : Type 0} (files : List (String Y × Vec ℕ Z)) (name : List ℕ) (i : ℕ)
+    (item : String Y × Vec ℕ Z)
     → i < length files → item ≡ get_or files i item → bytes_eq (string_bytes item.0) name ≡ false
     → file_of (files_of (drop i files)) name ≡ file_of (files_of (drop (i + 1) files)) name
 file_of-pass files name i item below is other =
@@ -26,8 +29,9 @@ file_of-pass files name i item below is other =
     ∙ ap (λ (b : Bool). if b then Some item.1.items else file_of (files_of (drop (i + 1) files)) name) other
 
 -- a file of this name is the one
-pub file_of-here : {Y Z : Type 0} (files : List (String Y × Vec ℕ Z)) (name : List ℕ) (i : ℕ) (item : String Y × Vec ℕ Z)
-    (place : Place) → i < length files → item ≡ get_or files i item → bytes_eq (string_bytes item.0) name ≡ true
+pub file_of-here : {Y Z : Type 0} (files : List (String Y × Vec ℕ Z)) (name : List ℕ) (i : ℕ)
+    (item : String Y × Vec ℕ Z) (place : Place)
+    → i < length files → item ≡ get_or files i item → bytes_eq (string_bytes item.0) name ≡ true
     → place ≡ record { file = i; at = 0 }
     → file_of (files_of (drop i files)) name ≡ Some (left_of files (Some place))
 file_of-here files name i item place below is same at =

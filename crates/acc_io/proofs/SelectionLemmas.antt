@@ -5,7 +5,9 @@ use Rattle.acc_io.specs.declared.place.Place.{Place}
 use Rattle.acc_io.specs.Held.{Held, file_of, Selects}
 use Rattle.acc_io.specs.Files.{files_of, left_of}
 
-pub Selects-left_of : {Y Z : Type 0} (files : List (String Y × Vec ℕ Z)) (held : Held) (name : List ℕ) (place : Option Place)
+-- where the look-up found a place, the file of that name is selected from that place on
+pub Selects-left_of : {Y Z : Type 0} (files : List (String Y × Vec ℕ Z)) (held : Held) (name : List ℕ)
+    (place : Option Place)
     → files_of files ≡ held.files
     → file_of (files_of files) name ≡ option_map (λ (it : Place). left_of files (Some it)) place
     → is_some place ≡ true

@@ -1,5 +1,6 @@
 -- Files by name as the code holds them, as contracts see them, and the place in the selected one.
-use Rattle.std.specs.Prelude.{ℕ, ◌≤◌, List, [], ◌∷◌, length, drop, Option, Some, None, slice_get, string_bytes, String, Vec, IsSomeAnd}
+use Rattle.std.specs.Prelude.{ℕ, ◌≤◌, List, [], ◌∷◌, length, drop, Option, Some, None, slice_get, string_bytes}
+use Rattle.std.specs.Prelude.{String, Vec, IsSomeAnd}
 use Rattle.std.specs.Option.{option_map_or}
 use Rattle.acc_io.specs.Held.{File}
 use Rattle.acc_io.specs.declared.place.Place.{Place}

@@ -21,11 +21,12 @@ file_of (file ∷ files) name = if bytes_eq file.name name then Some file.bytes 
 abbrev pub Selects : Option Held → Option Held → List ℕ → Type 0
 Selects None now name = now ≡ None
 Selects (Some held) now name =
-    (bytes : List ℕ) × (file_of held.files name ≡ Some bytes) × (now ≡ Some (record { files = held.files; left = bytes }))
+    (bytes : List ℕ) × (file_of held.files name ≡ Some bytes)
+    × (now ≡ Some (record { files = held.files; left = bytes }))
 
 -- no file is selected
-abbrev pub unselected : Held → Held
-unselected held = record { files = held.files; left = [] }
+abbrev pub deselect : Held → Held
+deselect held = record { files = held.files; left = [] }
 
 -- What was left of the selected file before is these bytes and what is left now. The files stay.
 abbrev pub Reads : Option Held → Option Held → List ℕ → Type 0

@@ -9,20 +9,20 @@ pub record Plan : Type 0 where
   pub faults : ℕ
 
 -- before the first call
-abbrev pub planned : List ℕ → Plan
-planned failing = record { failing = failing; calls = 0; faults = 0 }
+abbrev pub first_plan : List ℕ → Plan
+first_plan failing = record { failing = failing; calls = 0; faults = 0 }
 
 -- one more, but a count stays at the last value of 64 bits
-abbrev pub counted : ℕ → ℕ
-counted n = min (n + 1) (2 ^ 64 - 1)
+abbrev pub one_more : ℕ → ℕ
+one_more n = min (n + 1) (2 ^ 64 - 1)
 
 -- after one more call
-abbrev pub called : Plan → Plan
-called plan = record plan { calls = counted plan.calls }
+abbrev pub after_call : Plan → Plan
+after_call plan = record plan { calls = one_more plan.calls }
 
 -- after one more fault
-abbrev pub faulted : Plan → Plan
-faulted plan = record plan { faults = counted plan.faults }
+abbrev pub after_fault : Plan → Plan
+after_fault plan = record plan { faults = one_more plan.faults }
 
 -- The next call is one of those that fail. Where the count of calls stands at its last value, the next number is past
 -- all that a list of 64-bit numbers can have.

@@ -1,5 +1,6 @@
 -- What contracts see of a source, a sink and a shelf in memory.
-use Rattle.std.specs.Prelude.{◌≡◌, ℕ, ◌<◌, ◌≤◌, List, [], length, Bool, true, false, Option, Some, None, Vec, vec_capacity}
+use Rattle.std.specs.Prelude.{◌≡◌, ℕ, ◌<◌, ◌≤◌, List, [], length, Bool, true, false, Option, Some, None, Vec}
+use Rattle.std.specs.Prelude.{vec_capacity}
 use Rattle.acc_io.specs.Plan.{Plan}
 use Rattle.acc_io.specs.Held.{File, Held}
 
@@ -27,7 +28,7 @@ pub record KeepsRoom {Z : Type 0} (bytes : Vec ℕ Z) (room piece : ℕ) (plan :
   pub within : length bytes.items ≤ room
   pub reserved : room ≤ vec_capacity bytes
   pub moves : 0 < piece
-  pub sure : plan.failing ≡ [] → length bytes.items < room → plan.faults ≡ 0
+  pub no_fault : plan.failing ≡ [] → length bytes.items < room → plan.faults ≡ 0
 
 -- held: the files, and what is left of the selected one; selected: whether one is selected
 pub record ShelfView : Type 0 where
@@ -36,7 +37,7 @@ pub record ShelfView : Type 0 where
   pub piece : ℕ
   pub plan : Plan
 
--- the same of a shelf that fails at no call that it was told to; faults: how many there were
+-- the same of a shelf without a plan of failing calls; faults: how many there were
 pub record SoundShelfView : Type 0 where
   pub held : Held
   pub selected : Bool

@@ -1,6 +1,8 @@
+//! Which calls on an object in memory fail.
+
 ghost use Rattle.std.specs.Prelude.{◌≡◌, ◌≤◌, ◌↔◌, ◌+◌, Contains, MatchResult, IsErr, IsTrue};
-ghost use Rattle.acc_io.specs.Cause.{HasCause, Rose};
-ghost use Rattle.acc_io.specs.Plan.{FailsNext, planned, called, faulted};
+ghost use Rattle.acc_io.specs.Cause.{HasCause, FaultCounted};
+ghost use Rattle.acc_io.specs.Plan.{FailsNext, first_plan, after_call, after_fault};
 
 use crate::failed::Failed;
 use crate::fault_count::FaultCount;
@@ -24,7 +26,7 @@ impl Model for CallPlan {
 
 impl CallPlan {
     pub(crate) fn new(failing: Vec<u64>) -> CallPlan
-        ensures { result ≡ planned failing.items }
+        ensures { result ≡ first_plan failing.items }
     {
         CallPlan {
             failing,
@@ -37,28 +39,28 @@ impl CallPlan {
     pub(crate) fn call(&mut self) -> Result<(), Failed>
         ensures fails { IsErr result ↔ FailsNext self.old }
         ensures plan { MatchResult result
-            (λ _. self.new ≡ called self.old)
-            (λ _. self.new ≡ faulted (called self.old)) }
+            (λ _. self.new ≡ after_call self.old)
+            (λ _. self.new ≡ after_fault (after_call self.old)) }
         ensures cause { HasCause self.old.faults self.new.faults result }
     {
         if self.next_fails() {
-            return Err(self.fault());
+            return Err(self.count_fault());
         }
         Ok(())
     }
 
     /// Counts a fault.
-    pub(crate) fn fault(&mut self) -> Failed
-        ensures plan { self.new ≡ faulted self.old }
+    pub(crate) fn count_fault(&mut self) -> Failed
+        ensures plan { self.new ≡ after_fault self.old }
         ensures never_falls { self.old.faults ≤ self.new.faults }
-        ensures rose { Rose self.old.faults self.new.faults }
+        ensures fault_counted { FaultCounted self.old.faults self.new.faults }
     {
-        self.faults.rise()
+        self.faults.count_fault()
     }
 
     fn next_fails(&mut self) -> bool
         ensures fails { IsTrue result ↔ FailsNext self.old }
-        ensures plan { self.new ≡ called self.old }
+        ensures plan { self.new ≡ after_call self.old }
     {
         let fails = lists_next(&self.failing, self.calls);
         self.calls = self.calls.saturating_add(1);

@@ -1,3 +1,5 @@
+//! The one error of sources, sinks and shelves.
+
 use thiserror::Error;
 
 /// A call on a source, a sink or a shelf failed, and that object counted a fault.

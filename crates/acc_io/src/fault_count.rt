@@ -1,6 +1,8 @@
+//! The count of faults of an object.
+
 ghost use Rattle.std.specs.Prelude.{◌≡◌, ◌≤◌};
-ghost use Rattle.acc_io.specs.Cause.{Rose};
-ghost use Rattle.acc_io.specs.Plan.{counted};
+ghost use Rattle.acc_io.specs.Cause.{FaultCounted};
+ghost use Rattle.acc_io.specs.Plan.{one_more};
 
 use crate::failed::Failed;
 use std::marker::Model;
@@ -27,10 +29,10 @@ impl FaultCount {
     }
 
     /// Counts a fault.
-    pub(crate) fn rise(&mut self) -> Failed
-        ensures count { self.new ≡ counted self.old }
+    pub(crate) fn count_fault(&mut self) -> Failed
+        ensures count { self.new ≡ one_more self.old }
         ensures never_falls { self.old ≤ self.new }
-        ensures rose { Rose self.old self.new }
+        ensures fault_counted { FaultCounted self.old self.new }
     {
         self.count = self.count.saturating_add(1);
         Failed

@@ -1,3 +1,5 @@
+//! The shelf of the real files.
+
 ghost use Rattle.std.specs.Prelude.{◌≡◌, false, None};
 
 use crate::failed::Failed;
@@ -45,7 +47,7 @@ impl<R: Files> Shelf for FileShelf<R> {
 
     ghost selected = { λ shelf. shelf.selected };
 
-    ghost told = { λ _. None };
+    ghost contents = { λ _. None };
 
     ghost sound = { λ _. ⊥ };
 
@@ -56,7 +58,7 @@ impl<R: Files> Shelf for FileShelf<R> {
                 self.file = Some(file);
                 Ok(())
             }
-            Err(_) => Err(self.faults.rise()),
+            Err(_) => Err(self.faults.count_fault()),
         }
     }
 
@@ -66,7 +68,7 @@ impl<R: Files> Shelf for FileShelf<R> {
         };
         match file.read(buf) {
             Ok(n) => Ok(n),
-            Err(_) => Err(self.faults.rise()),
+            Err(_) => Err(self.faults.count_fault()),
         }
     }
 }

@@ -1,3 +1,5 @@
+//! Bytes in memory that are read piece by piece.
+
 ghost use Rattle.std.specs.Prelude.{◌≡◌, ◌++◌, length, take, drop, min};
 
 use crate::pieces::copy_front;

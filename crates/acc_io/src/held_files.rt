@@ -1,3 +1,5 @@
+//! Files in memory, of which one is read piece by piece.
+
 ghost use Rattle.std.specs.Prelude.{◌≡◌, ◌++◌, length, take, drop, min, false, IsTrue};
 ghost use Rattle.acc_io.specs.Held.{file_of, Selects};
 ghost use Rattle.acc_io.specs.Files.{files_of};
@@ -48,7 +50,7 @@ impl HeldFiles {
     }
 
     /// Selects no file.
-    pub(crate) fn unselect(&mut self)
+    pub(crate) fn deselect(&mut self)
         ensures { self.new ≡ selection self.old.held.files None }
     {
         self.place = None;

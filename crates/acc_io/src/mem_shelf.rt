@@ -1,9 +1,12 @@
-ghost use Rattle.std.specs.Prelude.{◌≡◌, ◌<◌, ◌≤◌, ◌++◌, ◌⊎◌, ◌↔◌, [], length, take, drop, min, true, false, is_ok, Some, None, IfSome, IsSome, IfOk, OnOk, OnErr, IsOk, IsErr};
+//! A shelf in memory whose calls fail as planned.
+
+ghost use Rattle.std.specs.Prelude.{◌≡◌, ◌<◌, ◌≤◌, ◌++◌, ◌⊎◌, ◌↔◌, [], length, take, drop, min, true, false, is_ok};
+ghost use Rattle.std.specs.Prelude.{Some, None, IfSome, IsSome, IfOk, OnOk, OnErr, IsOk, IsErr};
 ghost use Rattle.std.specs.Option.{option_map};
 ghost use Rattle.acc_io.specs.Cause.{HasCause};
-ghost use Rattle.acc_io.specs.Held.{file_of, unselected, Selects, Reads};
+ghost use Rattle.acc_io.specs.Held.{file_of, deselect, Selects, Reads};
 ghost use Rattle.acc_io.specs.Files.{files_of};
-ghost use Rattle.acc_io.specs.Plan.{FailsNext, planned, called, faulted};
+ghost use Rattle.acc_io.specs.Plan.{FailsNext, first_plan, after_call, after_fault};
 
 use crate::call_plan::CallPlan;
 use crate::failed::Failed;
@@ -11,7 +14,7 @@ use crate::held_files::HeldFiles;
 use crate::shelf::Shelf;
 use std::marker::Model;
 
-/// A shelf that holds its files, and fails at the calls that it was told to and where a name is not held.
+/// A shelf that holds its files, and fails at the calls that its plan lists and where a name is not held.
 #[derive(Drop)]
 pub struct MemShelf {
     files: HeldFiles,
@@ -44,7 +47,7 @@ impl MemShelf {
           held = record { files = files_of files.items; left = [] };
           selected = false;
           piece = piece;
-          plan = planned failing.items;
+          plan = first_plan failing.items;
         } }
     {
         MemShelf {
@@ -60,7 +63,7 @@ impl Shelf for MemShelf {
 
     ghost selected = { λ shelf. shelf.selected };
 
-    ghost told = { λ shelf. Some shelf.held };
+    ghost contents = { λ shelf. Some shelf.held };
 
     ghost sound = { λ shelf. shelf.plan.failing ≡ [] };
 
@@ -69,7 +72,7 @@ impl Shelf for MemShelf {
         ensures cause { HasCause self.old.plan.faults self.new.plan.faults result }
         ensures selected { self.new.selected ≡ is_ok result }
         ensures found { OnOk result (Selects (Some self.old.held) (Some self.new.held) name.now) }
-        ensures failed { OnErr result (Some self.new.held ≡ option_map unselected (Some self.old.held)) }
+        ensures failed { OnErr result (Some self.new.held ≡ option_map deselect (Some self.old.held)) }
         ensures sound { self.old.plan.failing ≡ [] → (self.new.plan.failing ≡ [])
             × IfSome (Some self.old.held) (λ held. IsSome (file_of held.files name.now) → IsOk result) }
 
@@ -79,19 +82,19 @@ impl Shelf for MemShelf {
             ≡ record self.old {
               held = record self.old.held { left = bytes };
               selected = true;
-              plan = called self.old.plan;
+              plan = after_call self.old.plan;
             })) }
         ensures after_failed { OnErr result (self.new
             ≡ record self.old {
-              held = unselected self.old.held;
+              held = deselect self.old.held;
               selected = false;
-              plan = faulted (called self.old.plan);
+              plan = after_fault (after_call self.old.plan);
             }) }
     {
-        self.files.unselect();
+        self.files.deselect();
         self.plan.call()?;
         if !self.files.select(name) {
-            return Err(self.plan.fault());
+            return Err(self.plan.count_fault());
         }
         Ok(())
     }
@@ -118,9 +121,10 @@ impl Shelf for MemShelf {
         ensures after { IfOk result (λ n. self.new
             ≡ record self.old {
               held = record self.old.held { left = drop n self.old.held.left };
-              plan = called self.old.plan;
+              plan = after_call self.old.plan;
             }) }
-        ensures after_failed { OnErr result (self.new ≡ record self.old { plan = faulted (called self.old.plan) }) }
+        ensures after_failed { OnErr result (self.new
+            ≡ record self.old { plan = after_fault (after_call self.old.plan) }) }
     {
         self.plan.call()?;
         Ok(self.files.read(buf, self.piece))

@@ -1,7 +1,10 @@
-ghost use Rattle.std.specs.Prelude.{◌≡◌, ℕ, ◌+◌, ◌-◌, ◌<◌, ◌≤◌, ◌++◌, ◌⊎◌, ◌↔◌, [], length, take, min, Some, IfOk, OnOk, OnErr, IsOk, IsErr};
+//! A sink in memory whose calls fail as planned.
+
+ghost use Rattle.std.specs.Prelude.{◌≡◌, ℕ, ◌+◌, ◌-◌, ◌<◌, ◌≤◌, ◌++◌, ◌⊎◌, ◌↔◌, [], length, take, min, Some, IfOk};
+ghost use Rattle.std.specs.Prelude.{OnOk, OnErr, IsOk, IsErr};
 ghost use Rattle.acc_io.specs.Cause.{HasCause};
 ghost use Rattle.acc_io.specs.Bytes.{Gains};
-ghost use Rattle.acc_io.specs.Plan.{FailsNext, planned, called, faulted};
+ghost use Rattle.acc_io.specs.Plan.{FailsNext, first_plan, after_call, after_fault};
 
 use crate::call_plan::CallPlan;
 use crate::failed::Failed;
@@ -9,7 +12,7 @@ use crate::sink::Sink;
 use std::alloc::{AllocError, Global};
 use std::marker::Model;
 
-/// A sink that holds what is written, up to its room, and fails at the calls that it was told to.
+/// A sink that holds what is written, up to its room, and fails at the calls that its plan lists.
 #[derive(Drop)]
 pub struct MemSink {
     bytes: Vec<u8>,
@@ -44,7 +47,7 @@ impl MemSink {
     ) -> Result<MemSink, AllocError>
         requires { 0 < piece }
         ensures { IfOk result (λ sink. sink
-            ≡ record { written = []; room = room; piece = piece; plan = planned failing.items }) }
+            ≡ record { written = []; room = room; piece = piece; plan = first_plan failing.items }) }
     {
         let bytes = Vec::with_capacity(alloc, room)?;
         Ok(MemSink {
@@ -59,7 +62,7 @@ impl MemSink {
     pub fn bytes(&self) -> &[u8]
         ensures bytes { result.now ≡ self.now.written }
         ensures within { length self.now.written ≤ self.now.room }
-        ensures sure { self.now.plan.failing ≡ [] → length self.now.written < self.now.room
+        ensures no_fault { self.now.plan.failing ≡ [] → length self.now.written < self.now.room
             → self.now.plan.faults ≡ 0 }
     {
         self.bytes.as_slice()
@@ -81,7 +84,7 @@ impl Sink for MemSink {
         ensures some { IfOk result (λ n. 0 < length bytes.now → 0 < n) }
         ensures written { IfOk result (λ n. Gains (Some self.old.written) (Some self.new.written) (take n bytes.now)) }
         ensures failed { OnErr result (Some self.new.written ≡ Some self.old.written) }
-        ensures sure { (room : ℕ) → 0 < room
+        ensures succeeds { (room : ℕ) → 0 < room
             → (self.old.plan.failing ≡ []) × (length self.old.written + room ≤ self.old.room) → IsOk result }
         ensures room { IfOk result (λ n. (room : ℕ)
             → (self.old.plan.failing ≡ []) × (length self.old.written + (n + room) ≤ self.old.room)
@@ -92,8 +95,9 @@ impl Sink for MemSink {
         ensures count { IfOk result (λ n. n
             ≡ min self.old.piece (min (length bytes.now) (self.old.room - length self.old.written))) }
         ensures after { IfOk result (λ n. self.new
-            ≡ record self.old { written = self.old.written ++ take n bytes.now; plan = called self.old.plan }) }
-        ensures after_failed { OnErr result (self.new ≡ record self.old { plan = faulted (called self.old.plan) }) }
+            ≡ record self.old { written = self.old.written ++ take n bytes.now; plan = after_call self.old.plan }) }
+        ensures after_failed { OnErr result (self.new
+            ≡ record self.old { plan = after_fault (after_call self.old.plan) }) }
     {
         self.plan.call()?;
         let n = self
@@ -101,7 +105,7 @@ impl Sink for MemSink {
             .min(bytes.len())
             .min(self.room - self.bytes.len());
         if n == 0 && !bytes.is_empty() {
-            return Err(self.plan.fault());
+            return Err(self.plan.count_fault());
         }
         self.bytes.extend_from_slice(&bytes[..n]).unwrap();
         Ok(n)
@@ -116,8 +120,9 @@ impl Sink for MemSink {
             → IsOk result × ((self.new.plan.failing ≡ []) × (length self.new.written + room ≤ self.new.room)) }
 
         ensures fails { IsErr result ↔ FailsNext self.old.plan }
-        ensures after { OnOk result (self.new ≡ record self.old { plan = called self.old.plan }) }
-        ensures after_failed { OnErr result (self.new ≡ record self.old { plan = faulted (called self.old.plan) }) }
+        ensures after { OnOk result (self.new ≡ record self.old { plan = after_call self.old.plan }) }
+        ensures after_failed { OnErr result (self.new
+            ≡ record self.old { plan = after_fault (after_call self.old.plan) }) }
     {
         self.plan.call()
     }

@@ -1,7 +1,10 @@
-ghost use Rattle.std.specs.Prelude.{◌≡◌, ◌<◌, ◌≤◌, ◌++◌, ◌↔◌, [], length, take, drop, min, Some, IfSome, IfOk, OnErr, IsOk, IsErr};
+//! A source in memory whose calls fail as planned.
+
+ghost use Rattle.std.specs.Prelude.{◌≡◌, ◌<◌, ◌≤◌, ◌++◌, ◌↔◌, [], length, take, drop, min, Some, IfSome, IfOk, OnErr};
+ghost use Rattle.std.specs.Prelude.{IsOk, IsErr};
 ghost use Rattle.acc_io.specs.Cause.{HasCause};
 ghost use Rattle.acc_io.specs.Bytes.{Gives};
-ghost use Rattle.acc_io.specs.Plan.{FailsNext, planned, called, faulted};
+ghost use Rattle.acc_io.specs.Plan.{FailsNext, first_plan, after_call, after_fault};
 
 use crate::call_plan::CallPlan;
 use crate::failed::Failed;
@@ -9,7 +12,7 @@ use crate::held_bytes::HeldBytes;
 use crate::source::Source;
 use std::marker::Model;
 
-/// A source that holds its bytes, and fails at the calls that it was told to.
+/// A source that holds its bytes, and fails at the calls that its plan lists.
 #[derive(Drop)]
 pub struct MemSource {
     bytes: HeldBytes,
@@ -37,7 +40,7 @@ impl MemSource {
     /// that fail and move nothing.
     pub fn new(bytes: Vec<u8>, piece: usize, failing: Vec<u64>) -> MemSource
         requires { 0 < piece }
-        ensures { result ≡ record { left = bytes.items; piece = piece; plan = planned failing.items } }
+        ensures { result ≡ record { left = bytes.items; piece = piece; plan = first_plan failing.items } }
     {
         MemSource {
             bytes: HeldBytes::new(bytes),
@@ -71,8 +74,9 @@ impl Source for MemSource {
         ensures buffer { IfOk result (λ n. buf.new ≡ take n self.old.left ++ drop n buf.old) }
         ensures same_buffer { OnErr result (buf.new ≡ buf.old) }
         ensures after { IfOk result (λ n. self.new
-            ≡ record self.old { left = drop n self.old.left; plan = called self.old.plan }) }
-        ensures after_failed { OnErr result (self.new ≡ record self.old { plan = faulted (called self.old.plan) }) }
+            ≡ record self.old { left = drop n self.old.left; plan = after_call self.old.plan }) }
+        ensures after_failed { OnErr result (self.new
+            ≡ record self.old { plan = after_fault (after_call self.old.plan) }) }
     {
         self.plan.call()?;
         Ok(self.bytes.read(buf, self.piece))

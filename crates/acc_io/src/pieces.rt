@@ -1,3 +1,5 @@
+//! Copies of the least of three lengths.
+
 ghost use Rattle.std.specs.Prelude.{◌≡◌, ◌++◌, length, take, drop, min};
 
 /// Copies bytes from the front of `from` into the front of `to`, at most that many, and answers how many.

@@ -1,3 +1,5 @@
+//! A place in one of several files.
+
 ghost use Rattle.std.specs.Prelude.{◌≡◌, ◌+◌, ◌^◌, ◌<◌};
 ghost use Rattle.std.specs.Option.{option_map};
 ghost use Rattle.acc_io.specs.Held.{file_of};
@@ -26,7 +28,8 @@ impl Place {
 /// The first byte of the first file of that name, if there is one.
 pub(crate) fn first_of(files: &[(String, Vec<u8>)], name: &str) -> Option<Place>
     ensures within { IsPlaceIn files.now result }
-    ensures found { file_of (files_of files.now) name.now ≡ option_map (λ place. left_of files.now (Some place)) result }
+    ensures found { file_of (files_of files.now) name.now
+        ≡ option_map (λ place. left_of files.now (Some place)) result }
 {
     for (file, held) in files.iter().enumerate() {
         if held.0.as_str() == name {

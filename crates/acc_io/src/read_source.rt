@@ -1,3 +1,5 @@
+//! A source over a real reader.
+
 ghost use Rattle.std.specs.Prelude.{◌≡◌, None};
 
 use crate::failed::Failed;
@@ -46,7 +48,7 @@ impl<R: Read> Source for ReadSource<R> {
     fn read(&mut self, buf: &mut [u8]) -> Result<usize, Failed> {
         match self.reader.read(buf) {
             Ok(n) => Ok(n),
-            Err(_) => Err(self.faults.rise()),
+            Err(_) => Err(self.faults.count_fault()),
         }
     }
 }

@@ -1,7 +1,10 @@
-ghost use Rattle.std.specs.Prelude.{◌≡◌, ℕ, ◌<◌, ◌≤◌, List, [], length, take, Option, Bool, false, is_ok, IfSome, IsSome, IfOk, OnOk, OnErr, IsOk};
+//! What a shelf of files is.
+
+ghost use Rattle.std.specs.Prelude.{◌≡◌, ℕ, ◌<◌, ◌≤◌, List, [], length, take, Option, Bool, false, is_ok, IfSome};
+ghost use Rattle.std.specs.Prelude.{IsSome, IfOk, OnOk, OnErr, IsOk};
 ghost use Rattle.std.specs.Option.{option_map};
 ghost use Rattle.acc_io.specs.Cause.{HasCause};
-ghost use Rattle.acc_io.specs.Held.{Held, file_of, unselected, Selects, Reads};
+ghost use Rattle.acc_io.specs.Held.{Held, file_of, deselect, Selects, Reads};
 
 use crate::failed::Failed;
 
@@ -14,7 +17,7 @@ pub trait Shelf {
     ghost selected: { Self → Bool };
 
     /// The files, and what is left of the selected one, where the shelf tells them.
-    ghost told: { Self → Option Held };
+    ghost contents: { Self → Option Held };
 
     /// No call fails any more, but a `select` of a name that is not held.
     ghost sound: { Self → Type 0 };
@@ -26,10 +29,10 @@ pub trait Shelf {
     fn select(&mut self, name: &str) -> Result<(), Failed>
         ensures cause { HasCause (faults self.old) (faults self.new) result }
         ensures selected { selected self.new ≡ is_ok result }
-        ensures found { OnOk result (Selects (told self.old) (told self.new) name.now) }
-        ensures failed { OnErr result (told self.new ≡ option_map unselected (told self.old)) }
+        ensures found { OnOk result (Selects (contents self.old) (contents self.new) name.now) }
+        ensures failed { OnErr result (contents self.new ≡ option_map deselect (contents self.old)) }
         ensures sound { sound self.old → sound self.new
-            × IfSome (told self.old) (λ held. IsSome (file_of held.files name.now) → IsOk result) };
+            × IfSome (contents self.old) (λ held. IsSome (file_of held.files name.now) → IsOk result) };
 
     /// Reads the next bytes of the selected file into the front of `buf`, and answers how many; 0 is the end,
     /// and the answer where no file is selected.
@@ -42,8 +45,8 @@ pub trait Shelf {
         ensures selected { selected self.new ≡ selected self.old }
         ensures nothing { selected self.old ≡ false → IfOk result (λ n. n ≡ 0) }
         ensures within { IfOk result (λ n. n ≤ length buf.new) }
-        ensures given { IfOk result (λ n. Reads (told self.old) (told self.new) (take n buf.new)) }
-        ensures end { IfOk result (λ n. n ≡ 0 → IfSome (told self.old) (λ held. held.left ≡ [])) }
-        ensures failed { OnErr result (told self.new ≡ told self.old) }
+        ensures given { IfOk result (λ n. Reads (contents self.old) (contents self.new) (take n buf.new)) }
+        ensures end { IfOk result (λ n. n ≡ 0 → IfSome (contents self.old) (λ held. held.left ≡ [])) }
+        ensures failed { OnErr result (contents self.new ≡ contents self.old) }
         ensures sound { sound self.old → IsOk result × sound self.new };
 }

@@ -1,3 +1,5 @@
+//! What a sink is.
+
 ghost use Rattle.std.specs.Prelude.{◌≡◌, ℕ, ◌+◌, ◌<◌, ◌≤◌, List, length, take, Option, IfOk, OnErr, IsOk};
 ghost use Rattle.acc_io.specs.Cause.{HasCause};
 ghost use Rattle.acc_io.specs.Bytes.{Gains};
@@ -24,7 +26,7 @@ pub trait Sink {
         ensures some { IfOk result (λ n. 0 < length bytes.now → 0 < n) }
         ensures written { IfOk result (λ n. Gains (written self.old) (written self.new) (take n bytes.now)) }
         ensures failed { OnErr result (written self.new ≡ written self.old) }
-        ensures sure { (room : ℕ) → 0 < room → has_room self.old room → IsOk result }
+        ensures succeeds { (room : ℕ) → 0 < room → has_room self.old room → IsOk result }
         ensures room { IfOk result (λ n. (room : ℕ) → has_room self.old (n + room) → has_room self.new room) };
 
     /// Hands on what was written and is still held back.

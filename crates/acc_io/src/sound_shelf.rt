@@ -1,9 +1,12 @@
-ghost use Rattle.std.specs.Prelude.{◌≡◌, ◌<◌, ◌≤◌, ◌++◌, ◌↔◌, [], length, take, drop, min, true, false, is_ok, Some, None, ⊤, IfSome, IsSome, IfOk, OnOk, OnErr, IsOk, IsErr};
+//! A shelf in memory that fails only where a name is not held.
+
+ghost use Rattle.std.specs.Prelude.{◌≡◌, ◌<◌, ◌≤◌, ◌++◌, ◌↔◌, [], length, take, drop, min, true, false, is_ok, Some};
+ghost use Rattle.std.specs.Prelude.{None, ⊤, IfSome, IsSome, IfOk, OnOk, OnErr, IsOk, IsErr};
 ghost use Rattle.std.specs.Option.{option_map};
 ghost use Rattle.acc_io.specs.Cause.{HasCause};
-ghost use Rattle.acc_io.specs.Held.{file_of, unselected, Selects, Reads};
+ghost use Rattle.acc_io.specs.Held.{file_of, deselect, Selects, Reads};
 ghost use Rattle.acc_io.specs.Files.{files_of};
-ghost use Rattle.acc_io.specs.Plan.{counted};
+ghost use Rattle.acc_io.specs.Plan.{one_more};
 
 use crate::failed::Failed;
 use crate::fault_count::FaultCount;
@@ -60,7 +63,7 @@ impl Shelf for SoundShelf {
 
     ghost selected = { λ shelf. shelf.selected };
 
-    ghost told = { λ shelf. Some shelf.held };
+    ghost contents = { λ shelf. Some shelf.held };
 
     ghost sound = { λ _. ⊤ };
 
@@ -69,7 +72,7 @@ impl Shelf for SoundShelf {
         ensures cause { HasCause self.old.faults self.new.faults result }
         ensures selected { self.new.selected ≡ is_ok result }
         ensures found { OnOk result (Selects (Some self.old.held) (Some self.new.held) name.now) }
-        ensures failed { OnErr result (Some self.new.held ≡ option_map unselected (Some self.old.held)) }
+        ensures failed { OnErr result (Some self.new.held ≡ option_map deselect (Some self.old.held)) }
         ensures sound { ⊤ → ⊤
             × IfSome (Some self.old.held) (λ held. IsSome (file_of held.files name.now) → IsOk result) }
 
@@ -78,13 +81,13 @@ impl Shelf for SoundShelf {
             ≡ record self.old { held = record self.old.held { left = bytes }; selected = true })) }
         ensures after_failed { OnErr result (self.new
             ≡ record self.old {
-              held = unselected self.old.held;
+              held = deselect self.old.held;
               selected = false;
-              faults = counted self.old.faults;
+              faults = one_more self.old.faults;
             }) }
     {
         if !self.files.select(name) {
-            return Err(self.faults.rise());
+            return Err(self.faults.count_fault());
         }
         Ok(())
     }

@@ -1,4 +1,7 @@
-ghost use Rattle.std.specs.Prelude.{◌≡◌, ◌<◌, ◌≤◌, ◌++◌, [], length, take, drop, min, Some, ⊤, IfSome, IfOk, OnErr, IsOk};
+//! A source in memory that never fails.
+
+ghost use Rattle.std.specs.Prelude.{◌≡◌, ◌<◌, ◌≤◌, ◌++◌, [], length, take, drop, min, Some, ⊤, IfSome, IfOk, OnErr};
+ghost use Rattle.std.specs.Prelude.{IsOk};
 ghost use Rattle.acc_io.specs.Cause.{HasCause};
 ghost use Rattle.acc_io.specs.Bytes.{Gives};
 

@@ -1,3 +1,5 @@
+//! What a source is.
+
 ghost use Rattle.std.specs.Prelude.{◌≡◌, ℕ, ◌<◌, ◌≤◌, List, [], length, take, Option, IfSome, IfOk, OnErr, IsOk};
 ghost use Rattle.acc_io.specs.Cause.{HasCause};
 ghost use Rattle.acc_io.specs.Bytes.{Gives};

@@ -1,3 +1,5 @@
+//! Pieces, rooms and failing calls of the forms in memory, and the adapters over real files.
+
 use crate::{
     Failed, FileShelf, MemShelf, MemSink, MemSource, ReadSource, Shelf, Sink, SoundShelf,
     SoundSource, Source, WriteSink, write_all,
@@ -9,8 +11,8 @@ use std::process::Abort;
 use std::test::Fail;
 use std::{fs, io};
 
-// The mark of a call: how many bytes it moved, or `!` where it failed.
-fn moved(outcome: Result<usize, Failed>) -> char {
+// The mark of a call that moves bytes: how many it moved, or `!` where it failed.
+fn moved_mark(outcome: Result<usize, Failed>) -> char {
     match outcome {
         Ok(n) if n < 10 => char::from(b'0' + n as u8),
         Ok(_) => '+',
@@ -18,7 +20,8 @@ fn moved(outcome: Result<usize, Failed>) -> char {
     }
 }
 
-fn selected(outcome: Result<(), Failed>) -> char {
+// The mark of a call that moves none: `.`, or `!` where it failed.
+fn done_mark(outcome: Result<(), Failed>) -> char {
     match outcome {
         Ok(()) => '.',
         Err(_) => '!',
@@ -26,7 +29,7 @@ fn selected(outcome: Result<(), Failed>) -> char {
 }
 
 // Reads by a buffer of four bytes, until each mark was met.
-fn reads<S: Source>(rt: &impl Abort, source: &mut S, marks: &str) {
+fn expect_reads<S: Source>(rt: &impl Abort, source: &mut S, marks: &str) {
     let mut buf = [0; 4];
     let mut next = b'a';
     for want in marks.chars() {
@@ -37,7 +40,7 @@ fn reads<S: Source>(rt: &impl Abort, source: &mut S, marks: &str) {
                 next = next.wrapping_add(1);
             }
         }
-        assert_eq!(rt; moved(outcome), want);
+        assert_eq!(rt; moved_mark(outcome), want);
     }
 }
 
@@ -53,10 +56,10 @@ fn sources_read_by_pieces(rt: HostRuntime) -> Result<(), Fail> {
         assert!(rt; piece > 0);
         let bytes = b"abcdef".to_vec(rt.alloc())?;
         let mut source = MemSource::new(bytes, piece, failing.to_vec(rt.alloc())?);
-        reads(&rt, &mut source, marks);
+        expect_reads(&rt, &mut source, marks);
     }
     let mut sound = SoundSource::new(b"abcdef".to_vec(rt.alloc())?, 7);
-    reads(&rt, &mut sound, "420");
+    expect_reads(&rt, &mut sound, "420");
     Ok(())
 }
 
@@ -74,9 +77,9 @@ fn sink_takes_pieces_up_to_its_room(rt: HostRuntime) -> Result<(), Fail> {
         assert!(rt; piece > 0);
         let mut sink = MemSink::new(rt.alloc(), room, piece, failing.to_vec(rt.alloc())?)?;
         for want in marks.chars() {
-            assert_eq!(rt; moved(sink.write(b"abc")), want);
+            assert_eq!(rt; moved_mark(sink.write(b"abc")), want);
         }
-        assert_eq!(rt; selected(sink.flush()), '.');
+        assert_eq!(rt; done_mark(sink.flush()), '.');
         assert_eq!(rt; sink.bytes(), bytes);
     }
     Ok(())
@@ -100,28 +103,28 @@ fn write_all_writes_all_or_a_front(rt: HostRuntime) -> Result<(), Fail> {
 // Each step selects a name, or reads by a buffer of four bytes where there is none.
 const STEPS: [&str; 8] = ["", "a.c", "", "", "none.c", "", "a.c", ""];
 
-fn walks<S: Shelf>(rt: &impl Abort, shelf: &mut S, marks: &str) {
+fn expect_steps<S: Shelf>(rt: &impl Abort, shelf: &mut S, marks: &str) {
     let mut buf = [0; 4];
     for (name, want) in STEPS.iter().zip(marks.chars()) {
         let mark = if name.is_empty() {
-            moved(shelf.read(&mut buf))
+            moved_mark(shelf.read(&mut buf))
         } else {
-            selected(shelf.select(name))
+            done_mark(shelf.select(name))
         };
         assert_eq!(rt; mark, want);
     }
     assert_eq!(rt; buf[0], b'f');
 }
 
-fn named(alloc: Global, name: &str, bytes: &[u8]) -> Result<(String, Vec<u8>), AllocError> {
+fn file_of(alloc: Global, name: &str, bytes: &[u8]) -> Result<(String, Vec<u8>), AllocError> {
     Ok((String::from_str(alloc, name)?, bytes.to_vec(alloc)?))
 }
 
 fn two_of_one_name(alloc: Global) -> Result<Vec<(String, Vec<u8>)>, AllocError> {
     let mut files = Vec::new(alloc);
-    files.push(named(alloc, "b.c", b"other")?)?;
-    files.push(named(alloc, "a.c", b"first")?)?;
-    files.push(named(alloc, "a.c", b"second")?)?;
+    files.push(file_of(alloc, "b.c", b"other")?)?;
+    files.push(file_of(alloc, "a.c", b"first")?)?;
+    files.push(file_of(alloc, "a.c", b"second")?)?;
     Ok(files)
 }
 
@@ -135,13 +138,13 @@ fn shelves_read_the_first_of_a_name(rt: HostRuntime) -> Result<(), Fail> {
     for (piece, failing, marks) in cases {
         assert!(rt; piece > 0);
         let files = two_of_one_name(rt.alloc())?;
-        walks(
+        expect_steps(
             &rt,
             &mut MemShelf::new(files, piece, failing.to_vec(rt.alloc())?),
             marks,
         );
     }
-    walks(
+    expect_steps(
         &rt,
         &mut SoundShelf::new(two_of_one_name(rt.alloc())?, 7),
         "0.41!0.4",
@@ -152,19 +155,31 @@ fn shelves_read_the_first_of_a_name(rt: HostRuntime) -> Result<(), Fail> {
 #[test]
 fn file_shelf_reads_a_real_file(rt: HostRuntime) -> Result<(), Fail> {
     fs::write(&rt, "a.c", "first")?;
-    walks(&rt, &mut FileShelf::new(rt), "0.41!0.4");
+    expect_steps(&rt, &mut FileShelf::new(rt), "0.41!0.4");
     fs::remove_file(&rt, "a.c")?;
     Ok(())
 }
 
 #[test]
+fn file_shelf_fails_to_read_a_folder(rt: HostRuntime) {
+    let mut buf = [0; 4];
+    let mut shelf = FileShelf::new(&rt);
+    assert_eq!(rt; done_mark(shelf.select(".")), '.');
+    assert_eq!(rt; moved_mark(shelf.read(&mut buf)), '!');
+
+    // a path that goes through no folder
+    assert_eq!(rt; done_mark(shelf.select("./none/none.c")), '!');
+    assert_eq!(rt; moved_mark(shelf.read(&mut buf)), '0');
+}
+
+#[test]
 fn read_source_reads_a_real_file(rt: HostRuntime) -> Result<(), Fail> {
     fs::write(&rt, "in.txt", "abcde")?;
-    reads(&rt, &mut ReadSource::new(File::open(&rt, "in.txt")?), "410");
+    expect_reads(&rt, &mut ReadSource::new(File::open(&rt, "in.txt")?), "410");
     fs::remove_file(&rt, "in.txt")?;
 
     // a folder can't be read
-    reads(&rt, &mut ReadSource::new(File::open(&rt, ".")?), "!");
+    expect_reads(&rt, &mut ReadSource::new(File::open(&rt, ".")?), "!");
     Ok(())
 }
 
@@ -182,6 +197,31 @@ impl Write for Full {
     }
 }
 
+// A writer that takes all, and fails to hand it on.
+#[derive(Drop)]
+struct Clogged;
+
+impl Write for Clogged {
+    fn write(&mut self, buf: &[u8]) -> io::Result<usize> {
+        Ok(buf.len())
+    }
+
+    fn flush(&mut self) -> io::Result<()> {
+        Err(io::ErrorKind::BrokenPipe.into())
+    }
+}
+
+#[test]
+fn write_sink_fails_where_the_writer_does(rt: HostRuntime) {
+    let mut full = WriteSink::new(Full);
+    assert!(rt; write_all(&mut full, b"more").is_err() && write_all(&mut full, b"").is_ok());
+    assert_eq!(rt; done_mark(full.flush()), '.');
+
+    let mut clogged = WriteSink::new(Clogged);
+    assert!(rt; write_all(&mut clogged, b"more").is_ok());
+    assert_eq!(rt; done_mark(clogged.flush()), '!');
+}
+
 #[test]
 fn write_sink_writes_a_real_file(rt: HostRuntime) -> Result<(), Fail> {
     let mut sink = WriteSink::new(File::create(&rt, "out.txt")?);
@@ -192,8 +232,5 @@ fn write_sink_writes_a_real_file(rt: HostRuntime) -> Result<(), Fail> {
     let mut refused = WriteSink::new(File::open(&rt, "out.txt")?);
     assert!(rt; write_all(&mut refused, b"more").is_err());
     fs::remove_file(&rt, "out.txt")?;
-
-    let mut full = WriteSink::new(Full);
-    assert!(rt; write_all(&mut full, b"more").is_err() && write_all(&mut full, b"").is_ok());
     Ok(())
 }

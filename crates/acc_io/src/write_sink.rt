@@ -1,3 +1,5 @@
+//! A sink over a real writer.
+
 ghost use Rattle.std.specs.Prelude.{◌≡◌, None};
 
 use crate::failed::Failed;
@@ -46,16 +48,16 @@ impl<W: Write> Sink for WriteSink<W> {
 
     fn write(&mut self, bytes: &[u8]) -> Result<usize, Failed> {
         match self.writer.write(bytes) {
-            Ok(0) if !bytes.is_empty() => Err(self.faults.rise()),
+            Ok(0) if !bytes.is_empty() => Err(self.faults.count_fault()),
             Ok(n) => Ok(n),
-            Err(_) => Err(self.faults.rise()),
+            Err(_) => Err(self.faults.count_fault()),
         }
     }
 
     fn flush(&mut self) -> Result<(), Failed> {
         match self.writer.flush() {
             Ok(()) => Ok(()),
-            Err(_) => Err(self.faults.rise()),
+            Err(_) => Err(self.faults.count_fault()),
         }
     }
 }

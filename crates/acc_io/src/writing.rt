@@ -1,3 +1,5 @@
+//! Writing all of some bytes.
+
 ghost use Rattle.std.specs.Prelude.{ℕ, ◌+◌, length, OnOk, OnErr, IsOk};
 ghost use Rattle.acc_io.specs.Cause.{HasCause};
 ghost use Rattle.acc_io.specs.Bytes.{Gains, GainsPart};

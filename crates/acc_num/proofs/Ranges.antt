@@ -33,9 +33,11 @@ unsigned_abs-signed I64 z s h = omega (arith, ints)
 unsigned_abs-signed U64 z s h = cc
 
 -- a product of two values of a signed kind fits 128 bits
-pub product_fits : (kind : IntKind) (a b : ℤ) → is_signed kind ≡ true → InRange kind a → InRange kind b → FitsSigned w128 (a *ℤ b)
+pub product_fits : (kind : IntKind) (a b : ℤ) → is_signed kind ≡ true → InRange kind a → InRange kind b
+    → FitsSigned w128 (a *ℤ b)
 product_fits kind a b s left right =
-    fits_signed_mul w128 a b (2 ^ 63) (2 ^ 63) (unsigned_abs-signed kind a s left) (unsigned_abs-signed kind b s right) (omega arith)
+    fits_signed_mul w128 a b (2 ^ 63) (2 ^ 63) (unsigned_abs-signed kind a s left)
+    (unsigned_abs-signed kind b s right) (omega arith)
 
 -- a value that is shifted left by less than 64 bits fits 128 bits
 pub shift_fits : (kind : IntKind) (a : ℤ) (by : ℕ) → by < 64 → InRange kind a → FitsSigned w128 (a *ℤ pos (2 ^ by))

@@ -1,5 +1,6 @@
 -- The operations on integers: the exact value of each, when it is refused, and its outcome in a kind.
-use Rattle.std.specs.Prelude.{◌^◌, Bool, not, ◌&&◌, ℤ, pos, ◌+ℤ◌, ◌-ℤ◌, ◌*ℤ◌, int_le, int_lt, int_div, int_rem, unsigned_abs, Option, Some, None, Result, Err, if◌then◌else◌}
+use Rattle.std.specs.Prelude.{◌^◌, Bool, not, ◌&&◌, ℤ, pos, ◌+ℤ◌, ◌-ℤ◌, ◌*ℤ◌, int_le, int_lt, int_div, int_rem}
+use Rattle.std.specs.Prelude.{unsigned_abs, Option, Some, None, Result, Err, if◌then◌else◌}
 use Rattle.std.specs.Option.{option_map}
 use Rattle.std.specs.Result.{result_err}
 use Rattle.std.specs.Int.{int_rem_euclid, int_div_euclid, is_negative}
@@ -10,6 +11,7 @@ use Rattle.acc_num.specs.declared.fault.NumFault.TheVariants.{ZeroDivisor, Shift
 use Rattle.acc_num.specs.Kinds.{width_of}
 use Rattle.acc_num.specs.Numbers.{greatest_of, value_of}
 
+-- The binary operators (6.5.5 to 6.5.7).
 pub data Operation : Type 0 where
   Add : Operation
   Sub : Operation
@@ -49,20 +51,22 @@ abbrev pub refusal_of : IntKind → Operation → ℤ → ℤ → Option NumFaul
 refusal_of kind Div a b = if is_zero b then Some ZeroDivisor else None
 refusal_of kind Rem a b = if is_zero b then Some ZeroDivisor else result_err (value_of kind (exact_of Div a b))
 refusal_of kind Shl a by =
-    if is_count kind by && not (is_negative a) then option_map (λ _. Shift) (result_err (value_of kind (exact_of Shl a by)))
+    if is_count kind by && not (is_negative a)
+    then option_map (λ _. Shift) (result_err (value_of kind (exact_of Shl a by)))
     else Some Shift
 refusal_of kind Shr a by = if is_count kind by then None else Some Shift
 refusal_of kind Add a b = None
 refusal_of kind Sub a b = None
 refusal_of kind Mul a b = None
 
-abbrev pub refused_or : Option NumFault → Result ℤ NumFault → Result ℤ NumFault
-refused_or None outcome = outcome
-refused_or (Some fault) outcome = Err fault
+-- a refusal, or else the outcome
+abbrev pub unless_refused : Option NumFault → Result ℤ NumFault → Result ℤ NumFault
+unless_refused None outcome = outcome
+unless_refused (Some fault) outcome = Err fault
 
 -- The outcome of an operation in a kind: its refusal, or else what the kind makes of the exact value.
 abbrev pub outcome_of : IntKind → Operation → ℤ → ℤ → Result ℤ NumFault
-outcome_of kind operation a b = refused_or (refusal_of kind operation a b) (value_of kind (exact_of operation a b))
+outcome_of kind operation a b = unless_refused (refusal_of kind operation a b) (value_of kind (exact_of operation a b))
 
 -- the value that an unsigned representation stands for in the kind (6.2.6.2p2)
 abbrev pub represented_by : IntKind → ℤ → ℤ

@@ -1,10 +1,11 @@
+//! Sums, differences, products, quotients and remainders (6.5.5, 6.5.6).
 ghost use Rattle.std.specs.Prelude.{◌≡◌, ◌≢◌, pos, int_div, int_rem, IfOk};
 ghost use Rattle.acc_num.specs.Numbers.{InRange, value_of};
 ghost use Rattle.acc_num.specs.Operations.{outcome_of, Add, Sub, Mul, Div, Rem};
 
 use crate::fault::NumFault;
 use crate::kind::{IntKind, is_signed};
-use crate::taken::{taken, wrapped};
+use crate::represent::{represent, wrap};
 
 /// `a + b` in that kind (6.5.6p5).
 ///
@@ -15,7 +16,7 @@ pub fn add(kind: IntKind, a: i128, b: i128) -> Result<i128, NumFault>
     ensures value { result ≡ outcome_of kind Add a b }
     ensures in_range { IfOk result (λ value. InRange kind value) }
 {
-    taken(kind, a + b)
+    represent(kind, a + b)
 }
 
 /// `a - b` in that kind (6.5.6p6).
@@ -27,7 +28,7 @@ pub fn sub(kind: IntKind, a: i128, b: i128) -> Result<i128, NumFault>
     ensures value { result ≡ outcome_of kind Sub a b }
     ensures in_range { IfOk result (λ value. InRange kind value) }
 {
-    taken(kind, a - b)
+    represent(kind, a - b)
 }
 
 /// `a * b` in that kind (6.5.5p4).
@@ -40,11 +41,11 @@ pub fn mul(kind: IntKind, a: i128, b: i128) -> Result<i128, NumFault>
     ensures in_range { IfOk result (λ value. InRange kind value) }
 {
     if is_signed(kind) {
-        return taken(kind, a * b);
+        return represent(kind, a * b);
     }
     // The product of two unsigned numbers of 64 bits may need all of 128.
     let product = a as u128 * b as u128;
-    Ok(wrapped(kind, product))
+    Ok(wrap(kind, product))
 }
 
 /// `a / b` in that kind, truncated towards zero (6.5.5p5 and p6).
@@ -79,7 +80,7 @@ pub fn rem(kind: IntKind, a: i128, b: i128) -> Result<i128, NumFault>
     remainder(kind, a, b)
 }
 
-// The quotient: of values of a kind only the least over -1 is out of range.
+/// The quotient: of values of a kind only the least over -1 is out of range (6.5.5p5).
 fn quotient(kind: IntKind, a: i128, b: i128) -> Result<i128, NumFault>
     requires left_in_range { InRange kind a }
     requires right_in_range { InRange kind b }
@@ -87,9 +88,10 @@ fn quotient(kind: IntKind, a: i128, b: i128) -> Result<i128, NumFault>
     ensures value { result ≡ value_of kind (int_div a b) }
     ensures in_range { IfOk result (λ value. InRange kind value) }
 {
-    taken(kind, a / b)
+    represent(kind, a / b)
 }
 
+/// The remainder, where the quotient is in range (6.5.5p6).
 fn remainder(kind: IntKind, a: i128, b: i128) -> Result<i128, NumFault>
     requires left_in_range { InRange kind a }
     requires right_in_range { InRange kind b }
@@ -97,5 +99,5 @@ fn remainder(kind: IntKind, a: i128, b: i128) -> Result<i128, NumFault>
     ensures value { result ≡ value_of kind (int_rem a b) }
     ensures in_range { IfOk result (λ value. InRange kind value) }
 {
-    taken(kind, a % b)
+    represent(kind, a % b)
 }

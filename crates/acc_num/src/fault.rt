@@ -1,3 +1,4 @@
+//! Why an operation on integers has no value.
 use thiserror::Error;
 
 /// Why an operation has no value: the behaviour of C is undefined there.

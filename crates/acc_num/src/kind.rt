@@ -1,8 +1,9 @@
+//! The kinds of integers: widths, bytes, signs and ranges (6.2.5, 6.2.6).
 ghost use Rattle.std.specs.Prelude.{◌≡◌};
-ghost use Rattle.acc_num.specs.Kinds.{width_of, is_signed};
+ghost use Rattle.acc_num.specs.Kinds.{width_of, bytes_of, is_signed};
 ghost use Rattle.acc_num.specs.Numbers.{least_of, greatest_of};
 
-use crate::power::power;
+use crate::power::power_of_two;
 
 /// The kinds of integers: `_Bool`, and the signed and unsigned ones of 8, 16, 32 and 64 bits (6.2.5).
 ///
@@ -20,7 +21,7 @@ pub enum IntKind {
     U64,
 }
 
-/// The number of value and sign bits (6.2.6.2p6).
+/// The width: how many value and sign bits a value of the kind has (6.2.6.2p6).
 pub fn width(kind: IntKind) -> u32
     ensures { result ≡ width_of kind }
 {
@@ -33,7 +34,14 @@ pub fn width(kind: IntKind) -> u32
     }
 }
 
-/// The kind has negative values.
+/// How many bytes a value of the kind takes (6.2.6.1p4); a `_Bool` takes one.
+pub fn bytes(kind: IntKind) -> u32
+    ensures { result ≡ bytes_of kind }
+{
+    width(kind).div_ceil(8)
+}
+
+/// Whether the kind has negative values (6.2.5p4 and p6).
 pub fn is_signed(kind: IntKind) -> bool
     ensures { result ≡ is_signed kind }
 {
@@ -43,18 +51,18 @@ pub fn is_signed(kind: IntKind) -> bool
     )
 }
 
-/// The least value of a kind.
+/// The least value of the kind: 0 or, with a sign, -2^(N-1) (6.2.6.2p2).
 pub fn least(kind: IntKind) -> i128
     ensures { result ≡ least_of kind }
 {
     if is_signed(kind) {
-        -power(width(kind) - 1)
+        -power_of_two(width(kind) - 1)
     } else {
         0
     }
 }
 
-/// The greatest value of a kind.
+/// The greatest value of the kind: 2^N - 1 or, with a sign, 2^(N-1) - 1 (6.2.6.2p1 and p2).
 pub fn greatest(kind: IntKind) -> i128
     ensures { result ≡ greatest_of kind }
 {
@@ -63,5 +71,5 @@ pub fn greatest(kind: IntKind) -> i128
     } else {
         width(kind)
     };
-    power(value_bits) - 1
+    power_of_two(value_bits) - 1
 }

@@ -10,13 +10,13 @@ pub mod conversion;
 pub mod fault;
 pub mod kind;
 mod power;
+mod represent;
 pub mod shift;
-mod taken;
 #[cfg(test)]
 mod tests;
 
 pub use arithmetic::{add, div, mul, rem, sub};
 pub use conversion::convert;
 pub use fault::NumFault;
-pub use kind::{IntKind, greatest, least};
+pub use kind::{IntKind, bytes, greatest, least};
 pub use shift::{shl, shr};

@@ -1,9 +1,10 @@
+-- The definitions that the contracts of this crate cite.
 pub mod Program
-pub mod Reading
-pub mod Parts
+pub mod PartEnds
+pub mod ProgramView
 pub mod Meaning
 pub mod Job
 pub mod Loading
-pub mod Asked
+pub mod JobView
 pub mod Answer
 pub mod Steps

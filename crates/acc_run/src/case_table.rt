@@ -1,10 +1,10 @@
 //! The command `table`.
 
 ghost use Rattle.std.specs.Prelude.{◌≡◌, ◌⊎◌, ℕ, ◌+◌, ◌≤◌, length, OnOk, OnErr, IsOk};
-ghost use Rattle.acc_io.specs.Cause.{HasCause, Rose};
+ghost use Rattle.acc_io.specs.Cause.{HasCause, FaultCounted};
 ghost use Rattle.acc_io.specs.Bytes.{Gains, GainsPart};
 ghost use Rattle.critical_table.specs.declared.ended.Ended.TheVariants.{Printed, WriteFault};
-ghost use Rattle.acc_run.specs.Answer.{table_text, seen};
+ghost use Rattle.acc_run.specs.Answer.{table_text, observe};
 ghost use Rattle.acc_run.specs.Steps.{PerformsTable};
 
 use acc_io::{Failed, Sink, write_all};
@@ -30,9 +30,10 @@ fn write_lines<O: Sink>(out: &mut O) -> Result<(), Failed>
 
 /// Writes the table of cases and codes. It answers `Printed`, or `WriteFault` where the output failed.
 pub fn table<O: Sink>(out: &mut O) -> Ended
-    ensures performs { PerformsTable (seen O.faults O.written out.old out.new) result }
+    ensures performs { PerformsTable (observe O.faults O.written out.old out.new) result }
     ensures never_falls { O.faults out.old ≤ O.faults out.new }
-    ensures room { (more : ℕ) → O.has_room out.old (length table_text + more) → (result ≡ Printed) × O.has_room out.new more }
+    ensures room { (more : ℕ) → O.has_room out.old (length table_text + more)
+        → (result ≡ Printed) × O.has_room out.new more }
 {
     match write_lines(out) {
         Ok(()) => Ended::Printed,

@@ -1,8 +1,10 @@
+//! What the words of a command line ask for.
+
 ghost use Rattle.std.specs.Prelude.{◌≡◌, ℕ, List, ◌&&◌, not, Some, None, codes, if◌then◌else◌};
 ghost use Rattle.std.specs.Str.{bytes_eq};
 ghost use Rattle.std.specs.Option.{option_map};
 ghost use Rattle.acc_run.specs.Job.{Run, Table, job_of as the_job, is_option as is_an_option};
-ghost use Rattle.acc_run.specs.Asked.{asked};
+ghost use Rattle.acc_run.specs.JobView.{job_view};
 
 use crate::words::Words;
 
@@ -24,7 +26,7 @@ fn is_option(word: &str) -> bool
 
 /// The job of the words, word 0 being the program's name; none where the words make none.
 pub fn job_of(words: &Words) -> Option<Job<'_>>
-    ensures { option_map asked result ≡ the_job words.now }
+    ensures { option_map job_view result ≡ the_job words.now }
 {
     match words.len() {
         2 => table_job(words.get(1)?),
@@ -34,7 +36,7 @@ pub fn job_of(words: &Words) -> Option<Job<'_>>
 }
 
 fn table_job(command: &str) -> Option<Job<'static>>
-    ensures { option_map asked result ≡ (if bytes_eq command.now (codes "table") then Some Table else None) }
+    ensures { option_map job_view result ≡ (if bytes_eq command.now (codes "table") then Some Table else None) }
 {
     if command == "table" {
         Some(Job::Table)
@@ -44,7 +46,7 @@ fn table_job(command: &str) -> Option<Job<'static>>
 }
 
 fn run_job<'a>(command: &str, file: &'a str) -> Option<Job<'a>>
-    ensures { option_map asked result
+    ensures { option_map job_view result
         ≡ (if bytes_eq command.now (codes "run") && not (is_an_option file.now) then Some (Run file.now) else None) }
 {
     if command == "run" && !is_option(file) {

@@ -6,7 +6,7 @@ pub mod job;
 pub mod load;
 pub mod meaning;
 pub mod program;
-pub mod reading;
+pub mod read_program;
 pub mod reporting;
 pub mod running;
 pub mod top;

@@ -4,8 +4,8 @@ ghost use Rattle.std.specs.Prelude.{◌≡◌, ℕ, ◌+◌, ◌*◌, ◌%◌, �
 ghost use Rattle.std.specs.List.{flat_map};
 ghost use Rattle.std.specs.Fmt.{decimal};
 ghost use Rattle.acc_run.specs.Program.{Fits, before_sum, greatest_constant, longest_unit, putchar_call, plus_term};
-ghost use Rattle.acc_run.specs.Parts.{form_of};
-ghost use Rattle.acc_run.specs.Meaning.{meaning_of, sum_from, returned as the_end};
+ghost use Rattle.acc_run.specs.ProgramView.{program_view};
+ghost use Rattle.acc_run.specs.Meaning.{meaning_of, sum_from, end_of_return as the_end_of_return};
 ghost use Rattle.acc_num.specs.Numbers.{InRange};
 ghost use Rattle.acc_num.specs.declared.kind.IntKind.TheVariants.{I32};
 
@@ -35,15 +35,15 @@ fn column_behind(column: u32, outputs: &[u32]) -> u32
 }
 
 /// How `main` ends that returns a value.
-fn returned(value: i128) -> Ended
+fn end_of_return(value: i128) -> Ended
     requires { InRange I32 value }
-    ensures { result ≡ the_end value }
+    ensures { result ≡ the_end_of_return value }
 {
     Ended::Exited(value.rem_euclid(256) as u8)
 }
 
 /// How `main` ends that returns the sum of `first` and `rest`; `column` is that of the first `+`.
-fn sum(first: u32, rest: &[u32], column: u32) -> Ended
+fn end_of_sum(first: u32, rest: &[u32], column: u32) -> Ended
     requires first { first ≤ greatest_constant }
     requires rest { All (λ constant. constant ≤ greatest_constant) rest.now }
     requires column { column + length (flat_map plus_term rest.now) ≤ 2 * longest_unit }
@@ -58,21 +58,21 @@ fn sum(first: u32, rest: &[u32], column: u32) -> Ended
         }
         column += 1 + digits(*summand);
     }
-    returned(total)
+    end_of_return(total)
 }
 
 /// How the run of a program ends.
-pub fn ended(program: &Program) -> Ended
-    requires { Fits (form_of program.now) }
-    ensures { result ≡ (meaning_of (form_of program.now)).ended }
+pub fn end_of(program: &Program) -> Ended
+    requires { Fits (program_view program.now) }
+    ensures { result ≡ (meaning_of (program_view program.now)).ended }
 {
     let column = column_behind(16, &program.outputs) + 7 + digits(program.first);
-    sum(program.first, &program.rest, column)
+    end_of_sum(program.first, &program.rest, column)
 }
 
 /// All that a program writes to the output.
-pub fn output(alloc: Global, program: &Program) -> Result<Vec<u8>, AllocError>
-    ensures { IfOk result (λ bytes. bytes.items ≡ (meaning_of (form_of program.now)).output) }
+pub fn output_of(alloc: Global, program: &Program) -> Result<Vec<u8>, AllocError>
+    ensures { IfOk result (λ bytes. bytes.items ≡ (meaning_of (program_view program.now)).output) }
 {
     program
         .outputs

@@ -1,10 +1,10 @@
 //! Reports an end.
 
 ghost use Rattle.std.specs.Prelude.{◌≡◌, ◌⊎◌, ℕ, ◌≤◌, OnOk, OnErr, IsOk};
-ghost use Rattle.acc_io.specs.Cause.{HasCause, Rose};
+ghost use Rattle.acc_io.specs.Cause.{HasCause, FaultCounted};
 ghost use Rattle.acc_io.specs.Bytes.{Gains, GainsPart};
 ghost use Rattle.critical_table.specs.Report.{report_of};
-ghost use Rattle.acc_run.specs.Answer.{seen};
+ghost use Rattle.acc_run.specs.Answer.{observe};
 ghost use Rattle.acc_run.specs.Steps.{Reports};
 
 use acc_io::{Failed, Sink, write_all};
@@ -29,7 +29,8 @@ fn try_report<O: Sink, E: Sink>(ended: &Ended, out: &mut O, err: &mut E) -> Resu
     ensures out_count { OnOk result (O.faults out.new ≡ O.faults out.old) }
     ensures err_count { OnOk result (E.faults err.new ≡ E.faults err.old) }
 
-    ensures cause { OnErr result (Rose (O.faults out.old) (O.faults out.new) ⊎ Rose (E.faults err.old) (E.faults err.new)) }
+    ensures cause { OnErr result (FaultCounted (O.faults out.old) (O.faults out.new)
+        ⊎ FaultCounted (E.faults err.old) (E.faults err.new)) }
     ensures part { OnErr result (GainsPart (E.written err.old) (E.written err.new) (report_of ended.now)) }
 
     ensures out_never_falls { O.faults out.old ≤ O.faults out.new }
@@ -43,7 +44,8 @@ fn try_report<O: Sink, E: Sink>(ended: &Ended, out: &mut O, err: &mut E) -> Resu
 
 /// Reports an end, and answers it, or `WriteFault` where a sink failed. After a `WriteFault` it writes nothing.
 pub fn report<O: Sink, E: Sink>(ended: Ended, out: &mut O, err: &mut E) -> Ended
-    ensures reports { Reports (seen O.faults O.written out.old out.new) (seen E.faults E.written err.old err.new) ended result }
+    ensures reports { Reports (observe O.faults O.written out.old out.new)
+        (observe E.faults E.written err.old err.new) ended result }
     ensures out_never_falls { O.faults out.old ≤ O.faults out.new }
     ensures err_never_falls { E.faults err.old ≤ E.faults err.new }
     ensures room { (more : ℕ) → O.has_room out.old more → E.has_room err.old 200 → result ≡ ended }

@@ -1,7 +1,9 @@
+//! Each command over objects in memory, by pieces, with failing calls, and units at the greatest length.
+
 ghost use Rattle.std.specs.Prelude.{◌≤◌};
 
 use crate::{Words, acc_main};
-use acc_io::{MemShelf, MemSink, MemSource, SoundShelf, Streams};
+use acc_io::{MemShelf, MemSink, MemSource, Shelf, SoundShelf, Streams};
 use critical_table::{Code, Ended, Pos, Refusal};
 use std::alloc::{AllocError, Global};
 use std::test::Fail;
@@ -21,7 +23,7 @@ const NONE: Failing<'static> = Failing {
 };
 
 #[derive(Drop)]
-struct Told {
+struct Done {
     ended: Ended,
     out: Vec<u8>,
     err: Vec<u8>,
@@ -63,7 +65,7 @@ fn call(
     unit: &[u8],
     piece: usize,
     failing: Failing<'_>,
-) -> Result<Told, AllocError>
+) -> Result<Done, AllocError>
     requires { 1 ≤ piece }
 {
     let words = words_of(alloc, texts)?;
@@ -71,7 +73,7 @@ fn call(
     let mut shelf = MemShelf::new(files, piece, Vec::from_slice(alloc, failing.shelf)?);
     let streams = streams_of(alloc, piece, failing)?;
     let (ended, streams) = acc_main(alloc, &words, &mut shelf, streams);
-    Ok(Told {
+    Ok(Done {
         ended,
         out: Vec::from_slice(alloc, streams.out.bytes())?,
         err: Vec::from_slice(alloc, streams.err.bytes())?,
@@ -198,10 +200,10 @@ fn runs_units_by_pieces(rt: HostRuntime) -> Result<(), Fail> {
     for (unit, ended, out, err) in UNITS {
         for piece in [1, 7, 4096] {
             assert!(rt; piece >= 1);
-            let told = call(rt.alloc(), &RUN, unit.as_bytes(), piece, NONE)?;
-            assert_eq!(rt; told.ended, ended, "{unit}");
-            assert_eq!(rt; told.out.as_slice(), out.as_bytes(), "{unit}");
-            assert_eq!(rt; told.err.as_slice(), err.as_bytes(), "{unit}");
+            let done = call(rt.alloc(), &RUN, unit.as_bytes(), piece, NONE)?;
+            assert_eq!(rt; done.ended, ended, "{unit}");
+            assert_eq!(rt; done.out.as_slice(), out.as_bytes(), "{unit}");
+            assert_eq!(rt; done.err.as_slice(), err.as_bytes(), "{unit}");
         }
     }
     Ok(())
@@ -225,8 +227,8 @@ fn takes_words(rt: HostRuntime) -> Result<(), Fail> {
         (&[], Ended::Usage),
     ];
     for (texts, ended) in cases {
-        let told = call(rt.alloc(), texts, b"int main(void){return 0;}", 7, NONE)?;
-        assert_eq!(rt; told.ended, ended, "{texts:?}");
+        let done = call(rt.alloc(), texts, b"int main(void){return 0;}", 7, NONE)?;
+        assert_eq!(rt; done.ended, ended, "{texts:?}");
     }
     Ok(())
 }
@@ -247,15 +249,15 @@ fn ends_at_the_first_fault(rt: HostRuntime) -> Result<(), Fail> {
     for (shelf, out, err, ended, text) in cases {
         let failing = Failing { shelf, out, err };
         let unit = b"int main(void){putchar(120);putchar(121);return 0;}";
-        let told = call(rt.alloc(), &RUN, unit, 4096, failing)?;
-        assert_eq!(rt; told.ended, ended, "{shelf:?} {out:?} {err:?}");
+        let done = call(rt.alloc(), &RUN, unit, 4096, failing)?;
+        assert_eq!(rt; done.ended, ended, "{shelf:?} {out:?} {err:?}");
         assert_eq!(rt;
-            told.out.as_slice(),
+            done.out.as_slice(),
             text.as_bytes(),
             "{shelf:?} {out:?} {err:?}"
         );
         if ended == Ended::WriteFault {
-            assert_eq!(rt; told.err.len(), 0);
+            assert_eq!(rt; done.err.len(), 0);
         }
     }
     Ok(())
@@ -294,14 +296,31 @@ fn takes_units_of_4096_bytes(rt: HostRuntime) -> Result<(), Fail> {
 }
 
 #[test]
+fn reads_4097_bytes_at_most(rt: HostRuntime) -> Result<(), Fail> {
+    let mut bytes = vec![in rt.alloc(); b'a'; 4097]?;
+    bytes.extend_from_slice(b"bc")?;
+    let words = words_of(rt.alloc(), &RUN)?;
+    let mut shelf = SoundShelf::new(files_of(rt.alloc(), &bytes)?, 1000);
+    let streams = streams_of(rt.alloc(), 4096, NONE)?;
+    let (answer, _streams) = acc_main(rt.alloc(), &words, &mut shelf, streams);
+    assert_eq!(rt; answer, REFUSED);
+
+    // the file is still selected, and is read on
+    let mut rest = [0; 4];
+    assert_eq!(rt; shelf.read(&mut rest), Ok(2));
+    assert_eq!(rt; rest[..2], b"bc"[..]);
+    Ok(())
+}
+
+#[test]
 fn writes_the_table(rt: HostRuntime) -> Result<(), Fail> {
-    let told = call(rt.alloc(), &["acc", "table"], b"", 7, NONE)?;
+    let done = call(rt.alloc(), &["acc", "table"], b"", 7, NONE)?;
     assert!(rt;
-        told.out
+        done.out
             .starts_with(b"L.3 1 6.2.4 object used outside its lifetime\n")
     );
-    assert!(rt; told.out.ends_with(b"U12 invalid truth value read\n"));
-    assert_eq!(rt; told.out.iter().filter(|byte| **byte == b'\n').count(), 24);
-    assert_eq!(rt; told.err.len(), 0);
+    assert!(rt; done.out.ends_with(b"U12 invalid truth value read\n"));
+    assert_eq!(rt; done.out.iter().filter(|byte| **byte == b'\n').count(), 24);
+    assert_eq!(rt; done.err.len(), 0);
     Ok(())
 }

@@ -1,4 +1,5 @@
-pub mod Values
+-- The lemmas of the crate.
+pub mod DigitValues
 pub mod Tables
 pub mod WordLaws
 pub mod Cases
@@ -14,13 +15,15 @@ pub mod PragmaLaws
 pub mod ShapeLaws
 pub mod TokenLaws
 pub mod OpenLaws
+pub mod TokenEnds
 pub mod EndLaws
-pub mod SplitMore
+pub mod SplitSteps
 pub mod ReaderLaws
 pub mod TakeLaws
 pub mod AnswerLaws
 pub mod PlaceLaws
 pub mod Leads
+pub mod LeadRefusals
 pub mod WordPart
 pub mod NumberPart
 pub mod QuotePart

@@ -3,13 +3,13 @@ use Rattle.std.proofs.Common.{◌≡◌, ℕ, ◌≤◌, List, false, length, re
 use Rattle.std.proofs.lemmas.Bool.{leb-true}
 use Rattle.std.proofs.lemmas.Option.{none-some}
 use Rattle.std.specs.Prelude.{Option, Some, None, is_some, IfSome, IfNone, nat_le}
-use Rattle.std.specs.List.{AllByRecursion}
 use Rattle.c_lexer.specs.declared.punct.Punct.{Punct}
 use Rattle.c_lexer.specs.declared.punct.Punct.TheVariants as p
 use Rattle.c_lexer.specs.Lookup.{lookup}
-use Rattle.c_lexer.specs.Marks.{mark_text, marks}
-use Rattle.c_lexer.proofs.Tables.{lookup_sound, lookup_true}
+use Rattle.c_lexer.specs.Marks.{mark_text, all_marks, marks}
+use Rattle.c_lexer.proofs.Tables.{lookup_true, spelled_so}
 
+-- the table has each mark
 pub mark_full : (mark : Punct) → lookup marks (mark_text mark) ≡ Some mark
 mark_full p.OpenBracket = refl
 mark_full p.CloseBracket = refl
@@ -58,21 +58,24 @@ mark_full p.CaretAssign = refl
 mark_full p.BarAssign = refl
 mark_full p.Comma = refl
 
-pub right_rows : AllByRecursion (λ row. row.0 ≡ mark_text row.1) marks
-right_rows = (refl, (refl, (refl, (refl, (refl, (refl, (refl, (refl, (refl, (refl, (refl, (refl, (refl, (refl, (refl, (refl, (refl, (refl, (refl, (refl, (refl, (refl, (refl, (refl, (refl, (refl, (refl, (refl, (refl, (refl, (refl, (refl, (refl, (refl, (refl, (refl, (refl, (refl, (refl, (refl, (refl, (refl, (refl, (refl, (refl, (refl, tt))))))))))))))))))))))))))))))))))))))))))))))
-
+-- the clauses of `mark_of`: what is found is the mark that the text spells
 pub mark_found : (text : List ℕ) (r : Option Punct) → r ≡ lookup marks text → IfSome r (λ mark. text ≡ mark_text mark)
 mark_found text None h = tt
-mark_found text (Some mark) h = lookup_sound (λ t x. t ≡ mark_text x) marks text mark right_rows (sym h)
+mark_found text (Some mark) h = spelled_so mark_text all_marks text mark (sym h)
 
-pub mark_none : (text : List ℕ) (r : Option Punct) → r ≡ lookup marks text → IfNone r ((mark : Punct) → text ≡ mark_text mark → ⊥)
+-- and where none is found the text spells none
+pub mark_none : (text : List ℕ) (r : Option Punct) → r ≡ lookup marks text
+    → IfNone r ((mark : Punct) → text ≡ mark_text mark → ⊥)
 mark_none text (Some mark) h = tt
 mark_none text None h = λ mark is. none-some _ (h ∙ (ap (lookup marks) is ∙ mark_full mark))
 
-mark_short_at : (text : List ℕ) (found : Option Punct) → lookup marks text ≡ found → 4 ≤ length text → is_some found ≡ false
+-- what the table finds has at most three bytes
+mark_short_at : (text : List ℕ) (found : Option Punct) → lookup marks text ≡ found → 4 ≤ length text
+    → is_some found ≡ false
 mark_short_at text None at long = refl
 mark_short_at text (Some mark) at long =
-    let short : length text ≤ 3 = leb-true (length text) 3 (lookup_true (λ t. nat_le (length t) 3) marks text mark refl at) in
+    let short : length text ≤ 3 =
+    leb-true (length text) 3 (lookup_true (λ t. nat_le (length t) 3) marks text mark refl at) in
     absurd (omega arith)
 
 -- no mark is longer than three bytes

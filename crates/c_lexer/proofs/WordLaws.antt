@@ -4,13 +4,15 @@ use Rattle.std.proofs.lemmas.Option.{none-some}
 use Rattle.std.specs.Prelude.{Option, Some, None, IfSome, IfNone}
 use Rattle.c_lexer.specs.declared.word.Word.{Word}
 use Rattle.c_lexer.specs.declared.word.Word.TheVariants as w
-use Rattle.c_lexer.specs.Words.{word_text, words, word_of}
-use Rattle.c_lexer.proofs.Tables.{lookup_sound}
+use Rattle.c_lexer.specs.Words.{word_text, all_words, word_of}
+use Rattle.c_lexer.proofs.Tables.{spelled_so}
 
+-- what the table has for a text is the word that it spells
 pub word_sound : (text : List ℕ) (word : Word) → word_of text ≡ Some word → text ≡ word_text word
 unfolding word_of
-word_sound text word h = lookup_sound (λ t x. t ≡ word_text x) words text word (refl, (refl, (refl, (refl, (refl, (refl, (refl, (refl, (refl, (refl, (refl, (refl, (refl, (refl, (refl, (refl, (refl, (refl, (refl, (refl, (refl, (refl, (refl, (refl, (refl, (refl, (refl, (refl, (refl, (refl, (refl, (refl, (refl, (refl, tt)))))))))))))))))))))))))))))))))) h
+word_sound = spelled_so word_text all_words
 
+-- the table has each word
 pub word_full : (word : Word) → word_of (word_text word) ≡ Some word
 unfolding word_of
 word_full w.Auto = refl
@@ -48,10 +50,13 @@ word_full w.Alignof = refl
 word_full w.Bool = refl
 word_full w.StaticAssert = refl
 
+-- the clauses of `word_of`: what is found is the word that the text spells
 pub word_found : (text : List ℕ) (r : Option Word) → r ≡ word_of text → IfSome r (λ word. text ≡ word_text word)
 word_found text None h = tt
 word_found text (Some word) h = word_sound text word (sym h)
 
-pub word_none : (text : List ℕ) (r : Option Word) → r ≡ word_of text → IfNone r ((word : Word) → text ≡ word_text word → ⊥)
+-- and where none is found the text spells none
+pub word_none : (text : List ℕ) (r : Option Word) → r ≡ word_of text
+    → IfNone r ((word : Word) → text ≡ word_text word → ⊥)
 word_none text (Some word) h = tt
 word_none text None h = λ word is. let found = word_full word in absurd (none-some _ (h ∙ (ap word_of is ∙ found)))

@@ -2,9 +2,11 @@
 use Rattle.std.specs.Prelude.{ℕ, Bool, not, ◌==◌, ◌||◌}
 use Rattle.std.specs.Char.{is_ascii_digit, is_ascii_hexdigit}
 use Rattle.c_lexer.specs.declared.bytes.Class.{Class}
-use Rattle.c_lexer.specs.declared.bytes.Class.TheVariants.{Word, Decimal, Octal, Hexadecimal, Blank, Solid, Spaced, Line}
+use Rattle.c_lexer.specs.declared.bytes.Class.TheVariants.{Word, Decimal, Octal, Hexadecimal}
+use Rattle.c_lexer.specs.declared.bytes.Class.TheVariants.{Blank, Solid, Spaced, Line}
 use Rattle.c_lexer.specs.Bytes.{is_word_byte, is_octal, is_blank}
 
+-- the byte is of the class
 abbrev pub is_in : Class → ℕ → Bool
 is_in Word byte = is_word_byte byte
 is_in Decimal byte = is_ascii_digit byte

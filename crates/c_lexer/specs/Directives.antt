@@ -1,5 +1,6 @@
 -- The directive lines that are taken, from their `#` on (6.10). None has an effect.
-use Rattle.std.specs.Prelude.{◌≡◌, ◌≢◌, ◌⊎◌, ℕ, ◌<◌, ◌||◌, Bool, true, false, List, [], ◌∷◌, ◌++◌, codes, length, slice_index}
+use Rattle.std.specs.Prelude.{◌≡◌, ◌≢◌, ◌⊎◌, ℕ, ◌<◌, ◌||◌, Bool, true, false, List, [], ◌∷◌, ◌++◌, codes, length}
+use Rattle.std.specs.Prelude.{slice_index}
 use Rattle.std.specs.List.{list_all, list_any, prefix_len, flat_map}
 use Rattle.std.specs.Str.{bytes_eq}
 use Rattle.std.specs.Char.{is_ascii_digit}
@@ -12,9 +13,11 @@ use Rattle.c_lexer.specs.Comments.{IsBlockComment, IsQuoted, IsInner, NoClose}
 abbrev pub IsBlank : List ℕ → Type 0
 IsBlank text = list_all is_blank text ≡ true
 
+-- the headers whose names may be included (7.1.2)
 abbrev pub headers : List (List ℕ)
 headers =
-    codes "<stddef.h>" ∷ codes "<stdint.h>" ∷ codes "<stdbool.h>" ∷ codes "<limits.h>" ∷ codes "<stdlib.h>" ∷ codes "<string.h>"
+    codes "<stddef.h>" ∷ codes "<stdint.h>" ∷ codes "<stdbool.h>" ∷ codes "<limits.h>"
+    ∷ codes "<stdlib.h>" ∷ codes "<string.h>"
     ∷ codes "<wchar.h>" ∷ codes "<stdio.h>" ∷ codes "<errno.h>" ∷ []
 
 -- one of them
@@ -62,7 +65,9 @@ pub record IsSingle (text after : List ℕ) : Type 0 where
 -- each piece is a comment, a text between quotes, or a byte that begins neither
 abbrev pub ArePieces : List (List ℕ) → List ℕ → Type 0
 ArePieces [] after = Unit {0}
-ArePieces (piece ∷ pieces) after = (IsBlockComment piece ⊎ IsQuoted piece ⊎ IsSingle piece (flat_map (λ p. p) pieces ++ after)) × ArePieces pieces after
+ArePieces (piece ∷ pieces) after =
+    (IsBlockComment piece ⊎ IsQuoted piece ⊎ IsSingle piece (flat_map (λ p. p) pieces ++ after))
+    × ArePieces pieces after
 
 -- a comment begins in the bytes and goes on behind them
 pub record GoesOn (bytes : List ℕ) : Type 0 where
@@ -80,6 +85,7 @@ pub record IsPragma (text : List ℕ) : Type 0 where
   pub line_only : list_all (is_in Line) rest ≡ true
   pub within : GoesOn rest → ⊥
 
+-- what may follow `#` and blanks
 abbrev pub IsShape : List ℕ → Type 0
 IsShape text = IsInclude text ⊎ IsDefine text ⊎ IsMarker text ⊎ IsPragma text
 

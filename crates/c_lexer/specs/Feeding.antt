@@ -9,7 +9,8 @@ use Rattle.c_lexer.specs.declared.lexer.Stop.{Stop}
 use Rattle.c_lexer.specs.declared.lexer.Stop.TheVariants as stop
 use Rattle.c_lexer.specs.declared.token.Token.{Token}
 use Rattle.c_lexer.specs.Lexing.{start, greatest_size, AreTokens, IsRefused}
-use Rattle.c_lexer.specs.Reading.{Reading, Anything, IsRead}
+use Rattle.c_lexer.specs.ReaderState.{ReaderState}
+use Rattle.c_lexer.specs.ReadSoFar.{Anything, IsRead}
 use Rattle.c_lexer.specs.Stream.{Stream}
 
 -- spans one behind another, none of them empty, up to the end
@@ -44,9 +45,9 @@ IsFault bytes (Refused why pos) = IsTooLarge (length bytes) why pos ⊎ IsOnlyRe
 IsFault bytes (Memory cause) = Unit {0}
 
 -- the bytes are refused, or memory was wanting
-abbrev pub IsUnread : List ℕ → LexFault → Type 0
-IsUnread bytes (Refused why pos) = IsRefused bytes why pos
-IsUnread bytes (Memory cause) = Unit {0}
+abbrev pub IsReadFault : List ℕ → LexFault → Type 0
+IsReadFault bytes (Refused why pos) = IsRefused bytes why pos
+IsReadFault bytes (Memory cause) = Unit {0}
 
 -- a fault that feeding may have: that there are more bytes than are taken, or want of memory
 abbrev pub IsFeedFault : ℕ → LexFault → Type 0
@@ -55,7 +56,7 @@ IsFeedFault size (Memory cause) = Unit {0}
 
 -- how far a lexer is
 pub record Progress : Type 0 where
-  pub reading : Reading
+  pub reader : ReaderState
   pub size : ℕ
   pub fault : Option LexFault
 
@@ -64,12 +65,13 @@ pub record IsFed (progress : Progress) (bytes : List ℕ) : Type 0 where
   pub running : progress.fault ≡ None
   pub size : progress.size ≡ length bytes
   pub few : length bytes ≤ greatest_size
-  pub read : IsRead Anything progress.reading bytes
+  pub read : IsRead Anything progress.reader bytes
 
 -- a call answered this fault
 abbrev pub IsStopped : Progress → LexFault → Type 0
 IsStopped progress fault = progress.fault ≡ Some fault
 
+-- the fault that each call answers once a lexer takes no more
 abbrev pub fault_of : Stop → LexFault
 fault_of stop.Size = Refused Size start.pos
 fault_of (stop.Memory cause) = Memory cause

@@ -1,3 +1,4 @@
+-- The definitions of the crate.
 pub mod Bytes
 pub mod Classes
 pub mod Lookup
@@ -7,8 +8,8 @@ pub mod Comments
 pub mod ReadComment
 pub mod Directives
 pub mod ReadDirective
-pub mod Parts
-pub mod Rows
+pub mod LexicalParts
+pub mod Refusals
 pub mod Lexing
 pub mod Stream
 pub mod Numbers
@@ -18,5 +19,6 @@ pub mod ReadCharacters
 pub mod ReadPart
 pub mod Open
 pub mod Placed
-pub mod Reading
+pub mod ReaderState
+pub mod ReadSoFar
 pub mod Feeding

@@ -1,5 +1,5 @@
 -- The spellings of the punctuators (6.4.6).
-use Rattle.std.specs.Prelude.{ℕ, List, [], ◌∷◌, codes}
+use Rattle.std.specs.Prelude.{ℕ, List, [], ◌∷◌, codes, map}
 use Rattle.c_lexer.specs.declared.punct.Punct.{Punct}
 use Rattle.c_lexer.specs.declared.punct.Punct.TheVariants as p
 
@@ -52,52 +52,16 @@ mark_text p.CaretAssign = codes "^="
 mark_text p.BarAssign = codes "|="
 mark_text p.Comma = codes ","
 
--- each punctuator behind its spelling
+-- all of them, those of three bytes first and those of one byte last
+abbrev pub all_marks : List Punct
+all_marks =
+    p.Ellipsis ∷ p.ShiftLeftAssign ∷ p.ShiftRightAssign ∷ p.Arrow ∷ p.Increment ∷ p.Decrement ∷ p.ShiftLeft
+    ∷ p.ShiftRight ∷ p.LessEqual ∷ p.GreaterEqual ∷ p.Equal ∷ p.NotEqual ∷ p.AndAnd ∷ p.OrOr ∷ p.StarAssign
+    ∷ p.SlashAssign ∷ p.PercentAssign ∷ p.PlusAssign ∷ p.MinusAssign ∷ p.AmpersandAssign ∷ p.CaretAssign
+    ∷ p.BarAssign ∷ p.OpenBracket ∷ p.CloseBracket ∷ p.OpenParen ∷ p.CloseParen ∷ p.OpenBrace ∷ p.CloseBrace
+    ∷ p.Dot ∷ p.Ampersand ∷ p.Star ∷ p.Plus ∷ p.Minus ∷ p.Tilde ∷ p.Exclamation ∷ p.Slash ∷ p.Percent ∷ p.Less
+    ∷ p.Greater ∷ p.Caret ∷ p.Bar ∷ p.Question ∷ p.Colon ∷ p.Semicolon ∷ p.Assign ∷ p.Comma ∷ []
+
+-- each of them behind its spelling
 abbrev pub marks : List (List ℕ × Punct)
-marks =
-    (codes "...", p.Ellipsis)
-    ∷ (codes "<<=", p.ShiftLeftAssign)
-    ∷ (codes ">>=", p.ShiftRightAssign)
-    ∷ (codes "->", p.Arrow)
-    ∷ (codes "++", p.Increment)
-    ∷ (codes "--", p.Decrement)
-    ∷ (codes "<<", p.ShiftLeft)
-    ∷ (codes ">>", p.ShiftRight)
-    ∷ (codes "<=", p.LessEqual)
-    ∷ (codes ">=", p.GreaterEqual)
-    ∷ (codes "==", p.Equal)
-    ∷ (codes "!=", p.NotEqual)
-    ∷ (codes "&&", p.AndAnd)
-    ∷ (codes "||", p.OrOr)
-    ∷ (codes "*=", p.StarAssign)
-    ∷ (codes "/=", p.SlashAssign)
-    ∷ (codes "%=", p.PercentAssign)
-    ∷ (codes "+=", p.PlusAssign)
-    ∷ (codes "-=", p.MinusAssign)
-    ∷ (codes "&=", p.AmpersandAssign)
-    ∷ (codes "^=", p.CaretAssign)
-    ∷ (codes "|=", p.BarAssign)
-    ∷ (codes "[", p.OpenBracket)
-    ∷ (codes "]", p.CloseBracket)
-    ∷ (codes "(", p.OpenParen)
-    ∷ (codes ")", p.CloseParen)
-    ∷ (codes "{", p.OpenBrace)
-    ∷ (codes "}", p.CloseBrace)
-    ∷ (codes ".", p.Dot)
-    ∷ (codes "&", p.Ampersand)
-    ∷ (codes "*", p.Star)
-    ∷ (codes "+", p.Plus)
-    ∷ (codes "-", p.Minus)
-    ∷ (codes "~", p.Tilde)
-    ∷ (codes "!", p.Exclamation)
-    ∷ (codes "/", p.Slash)
-    ∷ (codes "%", p.Percent)
-    ∷ (codes "<", p.Less)
-    ∷ (codes ">", p.Greater)
-    ∷ (codes "^", p.Caret)
-    ∷ (codes "|", p.Bar)
-    ∷ (codes "?", p.Question)
-    ∷ (codes ":", p.Colon)
-    ∷ (codes ";", p.Semicolon)
-    ∷ (codes "=", p.Assign)
-    ∷ (codes ",", p.Comma) ∷ []
+marks = map (λ mark. (mark_text mark, mark)) all_marks

@@ -1,5 +1,6 @@
 -- Integer constants (6.4.4.1).
-use Rattle.std.specs.Prelude.{◌≡◌, ◌⊎◌, ◌≢◌, ℕ, ◌^◌, ◌<◌, Bool, true, false, List, [], ◌∷◌, ◌++◌, codes, length, slice_index, Some}
+use Rattle.std.specs.Prelude.{◌≡◌, ◌⊎◌, ◌≢◌, ℕ, ◌^◌, ◌<◌, Bool, true, false, List, [], ◌∷◌, ◌++◌, codes, length}
+use Rattle.std.specs.Prelude.{slice_index, Some}
 use Rattle.std.specs.List.{list_all}
 use Rattle.std.specs.Str.Parse.{digits_value}
 use Rattle.c_lexer.specs.declared.bytes.Class.{Class}
@@ -10,16 +11,19 @@ use Rattle.c_lexer.specs.declared.number.Number.{Number}
 use Rattle.c_lexer.specs.Classes.{is_in}
 use Rattle.c_lexer.specs.Lookup.{lookup}
 
+-- the base as a number
 abbrev pub radix : Base → ℕ
 radix Decimal = 10
 radix Octal = 8
 radix Hexadecimal = 16
 
+-- the class of the digits
 abbrev pub digits_of : Base → Class
 digits_of Decimal = class.Decimal
 digits_of Octal = class.Octal
 digits_of Hexadecimal = class.Hexadecimal
 
+-- the constant is written as a decimal one
 abbrev pub is_decimal : Base → Bool
 is_decimal Decimal = true
 is_decimal Octal = false

@@ -1,5 +1,6 @@
--- How the end of a comment and of a text between quotes is found, and the end of what begins as a number.
-use Rattle.std.specs.Prelude.{ℕ, ◌==◌, ◌&&◌, Bool, true, false, List, [], ◌∷◌, drop, slice_index, Option, Some, None, if◌then◌else◌}
+-- How the end of a comment and of a text between quotes is found.
+use Rattle.std.specs.Prelude.{ℕ, ◌==◌, ◌&&◌, Bool, true, false, List, [], ◌∷◌, drop, slice_index, Option, Some, None}
+use Rattle.std.specs.Prelude.{if◌then◌else◌}
 
 -- what follows the first `*/`
 abbrev pub past_close : List ℕ → Option (List ℕ)
@@ -10,4 +11,6 @@ past_close (byte ∷ bytes) = if byte == 42 && slice_index bytes 0 == 47 then So
 abbrev pub past_quote : ℕ → Bool → List ℕ → Option (List ℕ)
 past_quote quote hidden [] = None
 past_quote quote true (byte ∷ bytes) = if byte == 10 then None else past_quote quote false bytes
-past_quote quote false (byte ∷ bytes) = if byte == 10 then None else (if byte == quote then Some bytes else past_quote quote (byte == 92) bytes)
+past_quote quote false (byte ∷ bytes) =
+    if byte == 10 then None
+    else (if byte == quote then Some bytes else past_quote quote (byte == 92) bytes)

@@ -1,5 +1,6 @@
 -- How an integer constant is read.
-use Rattle.std.specs.Prelude.{ℕ, ◌==◌, ◌||◌, ◌^◌, Bool, List, take, drop, slice_index, Option, Some, None, if◌then◌else◌, nat_lt}
+use Rattle.std.specs.Prelude.{ℕ, ◌==◌, ◌||◌, ◌^◌, Bool, List, take, drop, slice_index, Option, Some, None}
+use Rattle.std.specs.Prelude.{if◌then◌else◌, nat_lt}
 use Rattle.std.specs.List.{prefix_len}
 use Rattle.std.specs.Str.Parse.{digits_value}
 use Rattle.c_lexer.specs.declared.number.Base.{Base}
@@ -16,8 +17,10 @@ value_of base digits = if nat_lt (digits_value base digits) (2 ^ 64) then Some (
 -- from the value and the suffix
 abbrev pub with_suffix : Base → ℕ → Option (Bool × ℕ) → Option Number
 with_suffix base value None = None
-with_suffix base value (Some suffix) = Some (record { value = value; decimal = is_decimal base; unsigned = suffix.0; longs = suffix.1 })
+with_suffix base value (Some suffix) =
+    Some (record { value = value; decimal = is_decimal base; unsigned = suffix.0; longs = suffix.1 })
 
+-- from the value and the text of the suffix
 abbrev pub with_value : Base → Option ℕ → List ℕ → Option Number
 with_value base None suffix = None
 with_value base (Some value) suffix = with_suffix base value (lookup suffixes suffix)
@@ -32,5 +35,6 @@ constant base text =
 unfoldable pub number_of : List ℕ → Option Number
 number_of text =
     if slice_index text 0 == 48
-    then (if slice_index text 1 == 120 || slice_index text 1 == 88 then constant Hexadecimal (drop 2 text) else constant Octal text)
+    then (if slice_index text 1 == 120 || slice_index text 1 == 88 then constant Hexadecimal (drop 2 text)
+    else constant Octal text)
     else constant Decimal text

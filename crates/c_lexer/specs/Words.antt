@@ -1,5 +1,5 @@
--- The spellings of the words of the language (6.4.1).
-use Rattle.std.specs.Prelude.{ℕ, Bool, List, [], ◌∷◌, codes, Option}
+-- The words of the language (6.4.1): the spellings of those that are taken, and those that are not taken.
+use Rattle.std.specs.Prelude.{ℕ, Bool, List, [], ◌∷◌, codes, map, Option}
 use Rattle.std.specs.List.{list_any}
 use Rattle.std.specs.Str.{bytes_eq}
 use Rattle.c_lexer.specs.declared.word.Word.{Word}
@@ -43,6 +43,18 @@ word_text w.Alignof = codes "_Alignof"
 word_text w.Bool = codes "_Bool"
 word_text w.StaticAssert = codes "_Static_assert"
 
+-- all of them
+abbrev pub all_words : List Word
+all_words =
+    w.Auto ∷ w.Break ∷ w.Case ∷ w.Char ∷ w.Const ∷ w.Continue ∷ w.Default ∷ w.Do ∷ w.Else ∷ w.Enum ∷ w.Extern
+    ∷ w.For ∷ w.If ∷ w.Inline ∷ w.Int ∷ w.Long ∷ w.Register ∷ w.Restrict ∷ w.Return ∷ w.Short ∷ w.Signed
+    ∷ w.Sizeof ∷ w.Static ∷ w.Struct ∷ w.Switch ∷ w.Typedef ∷ w.Union ∷ w.Unsigned ∷ w.Void ∷ w.Volatile
+    ∷ w.While ∷ w.Alignof ∷ w.Bool ∷ w.StaticAssert ∷ []
+
+-- each of them behind its spelling
+abbrev pub words : List (List ℕ × Word)
+words = map (λ word. (word_text word, word)) all_words
+
 -- the words that are not taken
 abbrev pub outside_words : List (List ℕ)
 outside_words =
@@ -57,44 +69,7 @@ outside_words =
     ∷ codes "_Noreturn"
     ∷ codes "_Thread_local" ∷ []
 
--- each word that is taken, behind its spelling
-abbrev pub words : List (List ℕ × Word)
-words =
-    (codes "auto", w.Auto)
-    ∷ (codes "break", w.Break)
-    ∷ (codes "case", w.Case)
-    ∷ (codes "char", w.Char)
-    ∷ (codes "const", w.Const)
-    ∷ (codes "continue", w.Continue)
-    ∷ (codes "default", w.Default)
-    ∷ (codes "do", w.Do)
-    ∷ (codes "else", w.Else)
-    ∷ (codes "enum", w.Enum)
-    ∷ (codes "extern", w.Extern)
-    ∷ (codes "for", w.For)
-    ∷ (codes "if", w.If)
-    ∷ (codes "inline", w.Inline)
-    ∷ (codes "int", w.Int)
-    ∷ (codes "long", w.Long)
-    ∷ (codes "register", w.Register)
-    ∷ (codes "restrict", w.Restrict)
-    ∷ (codes "return", w.Return)
-    ∷ (codes "short", w.Short)
-    ∷ (codes "signed", w.Signed)
-    ∷ (codes "sizeof", w.Sizeof)
-    ∷ (codes "static", w.Static)
-    ∷ (codes "struct", w.Struct)
-    ∷ (codes "switch", w.Switch)
-    ∷ (codes "typedef", w.Typedef)
-    ∷ (codes "union", w.Union)
-    ∷ (codes "unsigned", w.Unsigned)
-    ∷ (codes "void", w.Void)
-    ∷ (codes "volatile", w.Volatile)
-    ∷ (codes "while", w.While)
-    ∷ (codes "_Alignof", w.Alignof)
-    ∷ (codes "_Bool", w.Bool)
-    ∷ (codes "_Static_assert", w.StaticAssert) ∷ []
-
+-- the word that the text spells
 unfoldable pub word_of : List ℕ → Option Word
 word_of = lookup words
 

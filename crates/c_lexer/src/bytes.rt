@@ -1,3 +1,5 @@
+//! The classes of bytes that tokens are made of, and runs of one class (5.2.1, 6.4).
+
 ghost use Rattle.std.specs.Prelude.{◌≡◌, ◌+◌, ◌≤◌, length, drop};
 ghost use Rattle.std.specs.List.{prefix_len, list_all};
 ghost use Rattle.c_lexer.specs.Bytes as spec;

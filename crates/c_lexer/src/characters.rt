@@ -1,4 +1,7 @@
-ghost use Rattle.std.specs.Prelude.{◌≡◌, ℕ, ℤ, ◌≤◌, ◌<◌, min, map, Bool, IfSome, IfNone, IfOk, length, List};
+//! Reads character constants and string literals (6.4.4.4, 6.4.5).
+
+ghost use Rattle.std.specs.Prelude.{◌≡◌, ◌≤◌, ◌<◌, ℕ, ℤ, Bool, List, min, map, length};
+ghost use Rattle.std.specs.Prelude.{IfSome, IfNone, IfOk};
 ghost use Rattle.std.specs.List.{prefix_len};
 ghost use Rattle.std.specs.Option.{option_map};
 ghost use Rattle.c_lexer.specs.Bytes.{is_octal};
@@ -50,11 +53,12 @@ fn greatest(wide: bool) -> u64
 }
 
 /// So many digits as a value that is not too great, and what follows them.
-#[tactic(auto, unfolding(crate::specs::ReadCharacters::numbered))]
-fn numbered(wide: bool, radix: u64, count: usize, bytes: &[u8]) -> Option<(u64, &[u8])>
+#[tactic(auto, unfolding(crate::specs::ReadCharacters::digits_escape))]
+fn digits_escape(wide: bool, radix: u64, count: usize, bytes: &[u8]) -> Option<(u64, &[u8])>
     requires radix { 1 ≤ radix }
     requires within { count ≤ length bytes.now }
-    ensures value { option_map (λ found. (found.0, found.1.now)) result ≡ spec.numbered wide radix count bytes.now }
+    ensures value { option_map (λ found. (found.0, found.1.now)) result
+        ≡ spec.digits_escape wide radix count bytes.now }
     ensures shorter { IfSome result (λ found. length found.1.now < length bytes.now) }
 {
     if count == 0 {
@@ -83,9 +87,9 @@ fn escape_at(wide: bool, bytes: &[u8]) -> Option<(u64, &[u8])>
         [] => None,
         [byte, after @ ..] => {
             if is_in(Class::Octal, *byte) {
-                numbered(wide, 8, run_len(Class::Octal, bytes).min(3), bytes)
+                digits_escape(wide, 8, run_len(Class::Octal, bytes).min(3), bytes)
             } else if *byte == b'x' {
-                numbered(wide, 16, run_len(Class::Hexadecimal, after), after)
+                digits_escape(wide, 16, run_len(Class::Hexadecimal, after), after)
             } else {
                 match letter_value(*byte) {
                     None => None,
@@ -144,8 +148,8 @@ fn unit_of(wide: bool, value: u64) -> i32
 }
 
 /// The value behind the opening quote, where the closing one follows it and nothing else.
-fn closed(wide: bool, bytes: &[u8]) -> Option<(i32, bool)>
-    ensures { result ≡ spec.closed wide (spec.item_at wide 39 bytes.now) }
+fn close_character(wide: bool, bytes: &[u8]) -> Option<(i32, bool)>
+    ensures { result ≡ spec.close_character wide (spec.item_at wide 39 bytes.now) }
 {
     match item_at(wide, b'\'', bytes) {
         None => None,
@@ -164,8 +168,8 @@ fn read_character(text: &[u8]) -> Option<(i32, bool)>
     ensures { result ≡ spec.character_of text.now }
 {
     match text {
-        [b'\'', after @ ..] => closed(false, after),
-        [b'L', b'\'', after @ ..] => closed(true, after),
+        [b'\'', after @ ..] => close_character(false, after),
+        [b'L', b'\'', after @ ..] => close_character(true, after),
         _ => None,
     }
 }
@@ -185,8 +189,13 @@ fn units_at(alloc: Global, wide: bool, bytes: &[u8]) -> Result<(Vec<i64>, &[u8])
 }
 
 /// The units between the opening quote and the closing one, where nothing else follows that.
-fn ended(alloc: Global, wide: bool, bytes: &[u8]) -> Result<Option<(Vec<i64>, bool)>, AllocError>
-    ensures { IfOk result (λ found. option_map (λ x. (x.0.items, x.1)) found ≡ spec.ended wide (spec.units_at wide bytes.now)) }
+fn close_literal(
+    alloc: Global,
+    wide: bool,
+    bytes: &[u8],
+) -> Result<Option<(Vec<i64>, bool)>, AllocError>
+    ensures { IfOk result
+        (λ found. option_map (λ x. (x.0.items, x.1)) found ≡ spec.close_literal wide (spec.units_at wide bytes.now)) }
 {
     let (units, after) = units_at(alloc, wide, bytes)?;
     if after == b"\"".as_slice() {
@@ -201,8 +210,8 @@ fn read_literal(alloc: Global, text: &[u8]) -> Result<Option<(Vec<i64>, bool)>, 
     ensures { IfOk result (λ found. option_map (λ x. (x.0.items, x.1)) found ≡ spec.literal_of text.now) }
 {
     match text {
-        [b'"', after @ ..] => ended(alloc, false, after),
-        [b'L', b'"', after @ ..] => ended(alloc, true, after),
+        [b'"', after @ ..] => close_literal(alloc, false, after),
+        [b'L', b'"', after @ ..] => close_literal(alloc, true, after),
         _ => Ok(None),
     }
 }
@@ -218,7 +227,8 @@ pub(crate) fn character_of(text: &[u8]) -> Option<(i32, bool)>
 /// The units of the string literal that the whole text spells, and whether it is wide, if it spells one (6.4.5).
 pub(crate) fn literal_of(alloc: Global, text: &[u8]) -> Result<Option<(Vec<i64>, bool)>, AllocError>
     ensures found { IfOk result (λ r. IfSome r (λ found. characters.IsLiteral text.now found.0.items found.1)) }
-    ensures none { IfOk result (λ r. IfNone r ((units : List ℤ) (wide : Bool) → characters.IsLiteral text.now units wide → ⊥)) }
+    ensures none { IfOk result
+        (λ r. IfNone r ((units : List ℤ) (wide : Bool) → characters.IsLiteral text.now units wide → ⊥)) }
 {
     read_literal(alloc, text)
 }

@@ -1,8 +1,9 @@
-ghost use Rattle.std.specs.Prelude.{◌≡◌, ◌≢◌, ℕ, ◌+◌, ◌≤◌, ◌==◌, ◌||◌, ◌&&◌, false, List, [], ◌∷◌, ◌++◌, length, option_copied, IfSome, IfNone};
+//! Finds where a comment, a text between quotes and a number end (6.4.9, 6.4.8).
+
+ghost use Rattle.std.specs.Prelude.{◌≡◌, ◌≤◌, false, length, option_copied, IfSome};
 ghost use Rattle.c_lexer.specs.Comments.{NoClose, IsInner};
-ghost use Rattle.c_lexer.specs.Bytes.{is_word_byte};
 ghost use Rattle.c_lexer.specs.ReadComment as spec;
-ghost use Rattle.c_lexer.specs.Rows.{number_len, is_exponent};
+ghost use Rattle.c_lexer.specs.Refusals.{is_exponent, goes_on_number};
 
 use crate::bytes::{Class, is_in};
 
@@ -50,7 +51,7 @@ pub(crate) fn is_exponent(byte: u8) -> bool
 
 /// Whether the byte goes on with a number (6.4.8).
 pub(crate) fn goes_on(sign: bool, byte: u8) -> bool
-    ensures { result ≡ (is_word_byte byte || byte == 46 || (sign && (byte == 43 || byte == 45))) }
+    ensures { result ≡ goes_on_number sign byte }
 {
     is_in(Class::Word, byte) || byte == b'.' || (sign && (byte == b'+' || byte == b'-'))
 }

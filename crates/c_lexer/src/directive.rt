@@ -1,3 +1,5 @@
+//! Reads the directive lines that are taken, but for pragmas (6.10.2, 6.10.3).
+
 ghost use Rattle.std.specs.Prelude.{◌≡◌, ◌↔◌, option_copied, IsTrue};
 ghost use Rattle.c_lexer.specs.Directives.{is_header, IsInclude, IsDefine, IsMarker};
 ghost use Rattle.c_lexer.specs.ReadDirective as spec;
@@ -20,7 +22,7 @@ const HEADERS: [&[u8]; 9] = [
 
 /// What follows the word, where it stands at the front.
 pub(crate) fn strip<'a>(text: &'a [u8], word: &[u8]) -> Option<&'a [u8]>
-    ensures { option_copied result ≡ spec.stripped word.now text.now }
+    ensures { option_copied result ≡ spec.strip word.now text.now }
 {
     text.strip_prefix(word)
 }

@@ -1,5 +1,7 @@
+//! Decides what the open part is, once it ends.
+
 ghost use Rattle.std.specs.Prelude.{IfOk};
-ghost use Rattle.c_lexer.specs.Reading.{Ends, Spells, IsLine};
+ghost use Rattle.c_lexer.specs.ReaderState.{EndsAs, EndsTokenAs, EndsDirectiveAs};
 
 use crate::mode::Mode;
 use crate::pragma::is_directive;
@@ -16,8 +18,8 @@ pub(crate) enum Ending {
     Refused(Refusal),
 }
 
-fn spelled(alloc: Global, text: &[u8], why: Refusal) -> Result<Ending, AllocError>
-    ensures { IfOk result (λ end. Spells why text.now end) }
+fn token_ending(alloc: Global, text: &[u8], why: Refusal) -> Result<Ending, AllocError>
+    ensures { IfOk result (λ end. EndsTokenAs why text.now end) }
 {
     match token_of(alloc, text)? {
         Some(body) => Ok(Ending::Token(body)),
@@ -25,8 +27,8 @@ fn spelled(alloc: Global, text: &[u8], why: Refusal) -> Result<Ending, AllocErro
     }
 }
 
-fn line(text: &[u8]) -> Ending
-    ensures { IsLine text.now result }
+fn directive_ending(text: &[u8]) -> Ending
+    ensures { EndsDirectiveAs text.now result }
 {
     if is_directive(text) {
         Ending::White
@@ -37,19 +39,19 @@ fn line(text: &[u8]) -> Ending
 
 /// What the open part is, if it ends behind this text.
 pub(crate) fn end_of(alloc: Global, mode: Mode, text: &[u8]) -> Result<Ending, AllocError>
-    ensures { IfOk result (λ end. Ends mode text.now end) }
+    ensures { IfOk result (λ end. EndsAs mode text.now end) }
 {
     match mode {
-        Mode::Word => spelled(alloc, text, Refusal::Profile),
-        Mode::Number(_) | Mode::Quotation => spelled(alloc, text, Refusal::Literal),
-        Mode::Wide | Mode::Dot | Mode::Dots | Mode::Slash | Mode::Mark => spelled(
+        Mode::Word => token_ending(alloc, text, Refusal::Profile),
+        Mode::Number(_) | Mode::Quotation => token_ending(alloc, text, Refusal::Literal),
+        Mode::Wide | Mode::Dot | Mode::Dots | Mode::Slash | Mode::Mark => token_ending(
             alloc,
             text,
             Refusal::Char,
         ),
         Mode::Quoted(_, _) | Mode::BlockComment(_) => Ok(Ending::Refused(Refusal::Unclosed)),
         Mode::LineComment | Mode::Space => Ok(Ending::White),
-        Mode::Directive => Ok(line(text)),
+        Mode::Directive => Ok(directive_ending(text)),
         Mode::Alien => Ok(Ending::Refused(Refusal::Char)),
     }
 }

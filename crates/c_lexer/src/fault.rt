@@ -1,3 +1,5 @@
+//! Why there are no tokens.
+
 use critical_table::{Pos, Refusal};
 use std::alloc::AllocError;
 use thiserror::Error;
@@ -8,6 +10,7 @@ pub enum LexFault {
     /// The bytes are no tokens, for this reason, at this place.
     #[error("{0:?} at {1:?}")]
     Refused(Refusal, Pos),
+    /// No memory was left.
     #[error("{0}")]
     Memory(AllocError),
 }

@@ -1,10 +1,14 @@
-ghost use Rattle.std.specs.Prelude.{◌≡◌, ◌+◌, ◌<◌, ◌≤◌, ℕ, List, [], ◌++◌, length, Err, OnOk, IfOk, IfErr};
+//! Takes the bytes of a unit in pieces, and gives its tokens.
+
+ghost use Rattle.std.specs.Prelude.{◌≡◌, ◌+◌, ◌<◌, ◌≤◌, ℕ, List, [], ◌++◌, length};
+ghost use Rattle.std.specs.Prelude.{Err, OnOk, IfOk, IfErr};
 ghost use Rattle.c_lexer.specs.declared.fault.LexFault.{LexFault};
 ghost use Rattle.critical_table.specs.declared.refusal.Refusal.TheVariants as refusal;
 ghost use Rattle.c_lexer.specs.declared.lexer.Stop.{Stop};
 ghost use Rattle.c_lexer.specs.Feeding.{AreOnlyTokens, IsFault, IsFeedFault, IsFed, IsStopped, fault_of};
 ghost use Rattle.c_lexer.specs.Lexing.{start, greatest_size};
-ghost use Rattle.c_lexer.specs.Reading.{reading, IsRead, Anything, End, IsWithin};
+ghost use Rattle.c_lexer.specs.ReaderState.{state_of, IsWithin};
+ghost use Rattle.c_lexer.specs.ReadSoFar.{IsRead, Anything, End};
 
 use crate::fault::LexFault;
 use crate::reader::Reader;
@@ -34,11 +38,12 @@ fn fault_of(stop: Stop) -> LexFault
 
 /// Reads a piece behind so many bytes, and answers how many there are then.
 fn read_piece(reader: &mut Reader, size: u32, piece: &[u8]) -> Result<u32, Stop>
-    requires within { IsWithin (reading reader.old) size }
+    requires within { IsWithin (state_of reader.old) size }
     requires few { size ≤ greatest_size }
     ensures size { IfOk result (λ now. (now ≡ size + length piece.now) × (now ≤ greatest_size)) }
-    ensures within { IfOk result (λ now. IsWithin (reading reader.new) now) }
-    ensures read { OnOk result ((bytes : List ℕ) → IsRead Anything (reading reader.old) bytes → IsRead Anything (reading reader.new) (bytes ++ piece.now)) }
+    ensures within { IfOk result (λ now. IsWithin (state_of reader.new) now) }
+    ensures read { OnOk result ((bytes : List ℕ) → IsRead Anything (state_of reader.old) bytes
+        → IsRead Anything (state_of reader.new) (bytes ++ piece.now)) }
     ensures many { IfErr result (λ why. IsFeedFault (size + length piece.now) (fault_of why)) }
     ensures too_many { greatest_size < size + length piece.now → result ≡ Err Stop.Size }
 {
@@ -63,15 +68,15 @@ pub struct Lexer {
 impl Model for Lexer {
     ghost use Rattle.c_lexer.specs.Feeding.{Progress, fault_of};
     ghost use Rattle.c_lexer.specs.Lexing.{greatest_size};
-    ghost use Rattle.c_lexer.specs.Reading.{reading, IsWithin};
+    ghost use Rattle.c_lexer.specs.ReaderState.{state_of, IsWithin};
     ghost use Rattle.std.specs.Prelude.{◌≡◌, ◌≤◌, None};
     ghost use Rattle.std.specs.Option.{option_map};
 
     ghost Value = { Progress };
 
-    ghost view = { λ l. record { reading = reading l.reader; size = l.size; fault = option_map fault_of l.stop } };
+    ghost view = { λ l. record { reader = state_of l.reader; size = l.size; fault = option_map fault_of l.stop } };
 
-    ghost invariant = { λ l. (l.stop ≡ None → IsWithin (reading l.reader) l.size) × (l.size ≤ greatest_size) };
+    ghost invariant = { λ l. (l.stop ≡ None → IsWithin (state_of l.reader) l.size) × (l.size ≤ greatest_size) };
 }
 
 impl Lexer {
@@ -90,10 +95,13 @@ impl Lexer {
     /// the first place; after it, and after want of memory, each later call answers the same.
     pub fn feed(&mut self, piece: &[u8]) -> Result<(), LexFault>
         ensures fed { OnOk result ((bytes : List ℕ) → IsFed self.old bytes → IsFed self.new (bytes ++ piece.now)) }
-        ensures cause { IfErr result (λ fault. (bytes : List ℕ) → IsFed self.old bytes → IsFeedFault (length (bytes ++ piece.now)) fault) }
-        ensures too_many { (bytes : List ℕ) → IsFed self.old bytes → greatest_size < length (bytes ++ piece.now) → result ≡ Err (LexFault.Refused refusal.Size start.pos) }
+        ensures cause { IfErr result
+            (λ fault. (bytes : List ℕ) → IsFed self.old bytes → IsFeedFault (length (bytes ++ piece.now)) fault) }
+        ensures too_many { (bytes : List ℕ) → IsFed self.old bytes → greatest_size < length (bytes ++ piece.now)
+            → result ≡ Err (LexFault.Refused refusal.Size start.pos) }
         ensures stopped { IfErr result (λ fault. IsStopped self.new fault) }
-        ensures stays { (fault : LexFault) → IsStopped self.old fault → (result ≡ Err fault) × IsStopped self.new fault }
+        ensures stays { (fault : LexFault) → IsStopped self.old fault
+            → (result ≡ Err fault) × IsStopped self.new fault }
     {
         match self.stop {
             Some(stop) => Err(fault_of(stop)),
@@ -110,7 +118,8 @@ impl Lexer {
         }
     }
 
-    /// The tokens of the bytes that were fed, or the fault that they have.
+    /// The tokens of the bytes that were fed, or the fault that they have: one that `feed` answered, Refused as `lex`
+    /// says, or want of memory.
     pub fn finish(self) -> Result<Tokens, LexFault>
         ensures tokens { IfOk result (λ stream. (bytes : List ℕ) → IsFed self bytes → AreOnlyTokens bytes stream) }
         ensures refused { IfErr result (λ fault. (bytes : List ℕ) → IsFed self bytes → IsFault bytes fault) }

@@ -1,3 +1,5 @@
+//! Tells, byte by byte, what the open part is and whether a byte goes on with it (6.4p4).
+
 ghost use Rattle.std.specs.Prelude.{◌≡◌};
 ghost use Rattle.c_lexer.specs.ReadPart as spec;
 
@@ -125,8 +127,8 @@ fn next_comment(star: bool, byte: u8) -> Mode
     }
 }
 
-fn only(goes_on: bool, mode: Mode) -> Option<Mode>
-    ensures { result ≡ spec.only goes_on mode }
+fn mode_if(goes_on: bool, mode: Mode) -> Option<Mode>
+    ensures { result ≡ spec.mode_if goes_on mode }
 {
     if goes_on { Some(mode) } else { None }
 }
@@ -150,10 +152,10 @@ fn first_of_class(byte: u8) -> Mode
 }
 
 impl Mode {
-    /// Behind the first byte of a part; `fresh` says that it is the first on its line.
+    /// Behind the first byte of a part; `at_line_start` says that only white space stands before it on its line.
     #[tactic(auto, unfolding(crate::specs::ReadPart::first))]
-    pub(crate) fn first(fresh: bool, byte: u8) -> Mode
-        ensures { result ≡ spec.first fresh byte }
+    pub(crate) fn first(at_line_start: bool, byte: u8) -> Mode
+        ensures { result ≡ spec.first at_line_start byte }
     {
         match byte {
             b'L' => Mode::Wide,
@@ -161,7 +163,7 @@ impl Mode {
             b'\'' => Mode::Quoted(Quote::Single, false),
             b'.' => Mode::Dot,
             b'/' => Mode::Slash,
-            b'#' if fresh => Mode::Directive,
+            b'#' if at_line_start => Mode::Directive,
             _ => first_of_class(byte),
         }
     }
@@ -172,17 +174,17 @@ impl Mode {
         ensures { result ≡ spec.next self text.now byte }
     {
         match self {
-            Mode::Word => only(is_in(Class::Word, byte), Mode::Word),
+            Mode::Word => mode_if(is_in(Class::Word, byte), Mode::Word),
             Mode::Wide => next_wide(byte),
-            Mode::Number(sign) => only(goes_on(sign, byte), Mode::Number(is_exponent(byte))),
+            Mode::Number(sign) => mode_if(goes_on(sign, byte), Mode::Number(is_exponent(byte))),
             Mode::Dot => next_dot(byte),
-            Mode::Dots => only(byte == b'.', Mode::Mark),
+            Mode::Dots => mode_if(byte == b'.', Mode::Mark),
             Mode::Slash => next_slash(byte),
-            Mode::Mark => only(extends(text, byte), Mode::Mark),
+            Mode::Mark => mode_if(extends(text, byte), Mode::Mark),
             Mode::Quoted(quote, hidden) => next_quoted(quote, hidden, byte),
-            Mode::LineComment => only(byte != b'\n', Mode::LineComment),
+            Mode::LineComment => mode_if(byte != b'\n', Mode::LineComment),
             Mode::BlockComment(star) => Some(next_comment(star, byte)),
-            Mode::Directive => only(byte != b'\n', Mode::Directive),
+            Mode::Directive => mode_if(byte != b'\n', Mode::Directive),
             Mode::Quotation | Mode::Space | Mode::Alien => None,
         }
     }

@@ -1,3 +1,5 @@
+//! Reads integer constants (6.4.4.1).
+
 ghost use Rattle.std.specs.Prelude.{◌≡◌, ◌≤◌, ◌<◌, ◌^◌, IfSome, IfNone};
 ghost use Rattle.std.specs.Char.{digit_value};
 ghost use Rattle.c_lexer.specs.Lookup.{lookup};
@@ -8,13 +10,15 @@ ghost use Rattle.c_lexer.specs.declared.number.Number.{Number};
 use crate::bytes::{Class, run_len};
 use crate::table::lookup;
 
-/// An integer constant (6.4.4.1): its value, whether it is written as a decimal constant, whether its suffix has a
-/// `u`, and how many `l` its suffix has, from 0 to 2.
+/// An integer constant (6.4.4.1).
 #[derive(Clone, Copy, Debug, PartialEq, Eq)]
 pub struct Number {
     pub value: u64,
+    /// It is written as a decimal constant, and so without a prefix and with no 0 at its front.
     pub decimal: bool,
+    /// Its suffix has a `u`.
     pub unsigned: bool,
+    /// How many `l` its suffix has, from 0 to 2.
     pub longs: u8,
 }
 

@@ -1,7 +1,9 @@
+//! Counts bytes, lines and columns, and knows where a line begins.
+
 ghost use Rattle.std.specs.Prelude.{◌≡◌, ◌+◌, ◌<◌, ◌≤◌, ◌^◌, ◌==◌, length};
 ghost use Rattle.std.specs.List.{list_any};
 ghost use Rattle.c_lexer.specs.declared.token.Body.{Body};
-ghost use Rattle.c_lexer.specs.Parts.{White, Spelled};
+ghost use Rattle.c_lexer.specs.LexicalParts.{White, Spelled};
 ghost use Rattle.c_lexer.specs.Placed.{IsPlaced};
 ghost use Rattle.c_lexer.specs.Lexing as spec;
 
@@ -14,7 +16,7 @@ pub(crate) struct Place {
     pub at: u32,
     pub pos: Pos,
     /// Only white space stands before it on its line.
-    pub fresh: bool,
+    pub at_line_start: bool,
 }
 
 /// The place behind a byte: a line ends at a line feed, and columns count bytes from 1.
@@ -60,20 +62,24 @@ impl Place {
     pub(crate) const START: Place = Place {
         at: 0,
         pos: Pos { line: 1, column: 1 },
-        fresh: true,
+        at_line_start: true,
     };
 
     /// The place behind a text that begins here: a token, or white space.
-    fn behind(self, text: &[u8], fresh: bool) -> Place
+    fn behind(self, text: &[u8], at_line_start: bool) -> Place
         requires placed { IsPlaced self }
         requires room { self.at + length text.now ≤ 4194304 }
-        ensures value { result ≡ record { at = self.at + length text.now; pos = spec.behind self.pos text.now; fresh = fresh } }
+        ensures value { result ≡ record {
+          at = self.at + length text.now;
+          pos = spec.behind self.pos text.now;
+          at_line_start = at_line_start;
+        } }
         ensures placed { IsPlaced result }
     {
         Place {
             at: self.at + text.len() as u32,
             pos: behind(self.pos, text),
-            fresh,
+            at_line_start,
         }
     }
 
@@ -84,7 +90,7 @@ impl Place {
         ensures value { result ≡ spec.place_behind self (White text.now) }
         ensures placed { IsPlaced result }
     {
-        self.behind(text, self.fresh || has_line_feed(text))
+        self.behind(text, self.at_line_start || has_line_feed(text))
     }
 
     /// The place behind a token that begins here.

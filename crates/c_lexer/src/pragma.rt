@@ -1,3 +1,5 @@
+//! Reads pragmas, and tells whether a line is a directive that is taken (6.10, 6.10.6).
+
 ghost use Rattle.std.specs.Prelude.{◌≡◌, ◌↔◌, ◌≤◌, length, IsTrue, MatchResult, Ok, Err, IfOk};
 ghost use Rattle.c_lexer.specs.Directives.{IsPragma, IsShape, IsDirective};
 ghost use Rattle.c_lexer.specs.ReadDirective as spec;
@@ -9,7 +11,9 @@ use crate::directive::{is_define, is_include, is_marker, strip};
 /// What follows the comment, the text between quotes or the byte at the front, or whether a comment goes on from here.
 #[tactic(auto, unfolding(crate::specs::ReadDirective::past_piece))]
 fn past_piece(byte: u8, after: &[u8]) -> Result<&[u8], bool>
-    ensures value { MatchResult result (λ rest. spec.past_piece byte after.now ≡ Ok rest.now) (λ open_end. spec.past_piece byte after.now ≡ Err open_end) }
+    ensures value { MatchResult result
+        (λ rest. spec.past_piece byte after.now ≡ Ok rest.now)
+        (λ open_end. spec.past_piece byte after.now ≡ Err open_end) }
     ensures shorter { IfOk result (λ rest. length rest.now ≤ length after.now) }
 {
     let next = after.first().copied();

@@ -1,3 +1,5 @@
+//! The punctuators, and the table of their spellings (6.4.6).
+
 ghost use Rattle.std.specs.Prelude.{◌≡◌, IfSome, IfNone};
 ghost use Rattle.c_lexer.specs.Lookup.{lookup};
 ghost use Rattle.c_lexer.specs.Marks.{mark_text, marks};

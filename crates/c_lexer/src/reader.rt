@@ -1,10 +1,14 @@
+//! Splits the bytes of a unit into parts: white spaces and tokens (6.4).
+
 ghost use Rattle.std.specs.Prelude.{◌≡◌, ◌+◌, ◌≤◌, ℕ, true, List, [], ◌∷◌, ◌++◌, length, OnOk, IfOk, IfErr};
 ghost use Rattle.c_lexer.specs.Lexing.{AreTokens, greatest_size};
-ghost use Rattle.c_lexer.specs.Feeding.{IsUnread};
+ghost use Rattle.c_lexer.specs.Feeding.{IsReadFault};
 ghost use Rattle.c_lexer.specs.declared.mode.Mode.TheVariants as mode;
 ghost use Rattle.c_lexer.specs.Placed.{IsPlaced};
 ghost use Rattle.c_lexer.specs.ReadPart.{is_other};
-ghost use Rattle.c_lexer.specs.Reading.{reading, unread, went_on, skipped, added, after_ending, Closes, next_part, BeginsOr, IsParted, is_pair, IsRead, Anything, Byte, End, IsWithin, reach};
+ghost use Rattle.c_lexer.specs.ReaderState.{state_of, start_state, after_byte, after_white, after_token, after_ending};
+ghost use Rattle.c_lexer.specs.ReaderState.{Closes, next_part, BeginsOr, IsParted, is_pair, IsWithin, reach};
+ghost use Rattle.c_lexer.specs.ReadSoFar.{IsRead, Anything, Byte, End};
 
 use crate::ending::{Ending, end_of};
 use crate::fault::LexFault;
@@ -33,7 +37,7 @@ pub(crate) struct Reader {
 
 impl Reader {
     pub(crate) fn new(alloc: Global) -> Reader
-        ensures { reading result ≡ unread }
+        ensures { state_of result ≡ start_state }
     {
         Reader {
             alloc,
@@ -47,8 +51,9 @@ impl Reader {
 
     /// The byte goes on with the open part, or begins one.
     fn go_on(&mut self, mode: Mode, byte: u8) -> Result<(), AllocError>
-        ensures ok { OnOk result (reading self.new ≡ went_on (reading self.old) mode byte) }
-        ensures within { OnOk result (IsPlaced self.old.place → IsWithin (reading self.new) (reach (reading self.old) + 1)) }
+        ensures ok { OnOk result (state_of self.new ≡ after_byte (state_of self.old) mode byte) }
+        ensures within { OnOk result (IsPlaced self.old.place
+            → IsWithin (state_of self.new) (reach (state_of self.old) + 1)) }
     {
         self.text.push(byte)?;
         self.mode = Some(mode);
@@ -57,9 +62,9 @@ impl Reader {
 
     /// The open part is white space.
     fn skip(&mut self)
-        requires { IsWithin (reading self.old) 4194304 }
-        ensures value { reading self.new ≡ skipped (reading self.old) }
-        ensures within { IsWithin (reading self.new) (reach (reading self.old)) }
+        requires { IsWithin (state_of self.old) 4194304 }
+        ensures value { state_of self.new ≡ after_white (state_of self.old) }
+        ensures within { IsWithin (state_of self.new) (reach (state_of self.old)) }
     {
         self.place = self.place.behind_white(&self.text);
         self.text.clear();
@@ -68,9 +73,9 @@ impl Reader {
 
     /// The open part is this token.
     fn add(&mut self, body: Body) -> Result<(), AllocError>
-        requires { IsWithin (reading self.old) 4194304 }
-        ensures ok { OnOk result (reading self.new ≡ added (reading self.old) body) }
-        ensures within { OnOk result (IsWithin (reading self.new) (reach (reading self.old))) }
+        requires { IsWithin (state_of self.old) 4194304 }
+        ensures ok { OnOk result (state_of self.new ≡ after_token (state_of self.old) body) }
+        ensures within { OnOk result (IsWithin (state_of self.new) (reach (state_of self.old))) }
     {
         let from = self.place.at;
         let pos = self.place.pos;
@@ -88,9 +93,9 @@ impl Reader {
     }
 
     fn end(&mut self, end: Ending) -> Result<(), AllocError>
-        requires { IsWithin (reading self.old) 4194304 }
-        ensures ok { OnOk result (reading self.new ≡ after_ending (reading self.old) end) }
-        ensures within { OnOk result (IsWithin (reading self.new) (reach (reading self.old))) }
+        requires { IsWithin (state_of self.old) 4194304 }
+        ensures ok { OnOk result (state_of self.new ≡ after_ending (state_of self.old) end) }
+        ensures within { OnOk result (IsWithin (state_of self.new) (reach (state_of self.old))) }
     {
         match end {
             Ending::White => {
@@ -107,9 +112,9 @@ impl Reader {
 
     /// Ends the open part, if a part is open.
     fn close(&mut self) -> Result<(), AllocError>
-        requires { IsWithin (reading self.old) 4194304 }
-        ensures ok { OnOk result (Closes self.old.mode (reading self.old) (reading self.new)) }
-        ensures within { OnOk result (IsWithin (reading self.new) (reach (reading self.old))) }
+        requires { IsWithin (state_of self.old) 4194304 }
+        ensures ok { OnOk result (Closes self.old.mode (state_of self.old) (state_of self.new)) }
+        ensures within { OnOk result (IsWithin (state_of self.new) (reach (state_of self.old))) }
     {
         match self.mode {
             None => Ok(()),
@@ -132,20 +137,21 @@ impl Reader {
 
     /// The byte begins a part, unless the bytes are refused.
     fn begin(&mut self, byte: u8) -> Result<(), AllocError>
-        ensures ok { OnOk result (BeginsOr self.old.refused (reading self.old) byte (reading self.new)) }
-        ensures within { OnOk result (IsPlaced self.old.place → IsWithin (reading self.new) (reach (reading self.old) + 1)) }
+        ensures ok { OnOk result (BeginsOr self.old.refused (state_of self.old) byte (state_of self.new)) }
+        ensures within { OnOk result (IsPlaced self.old.place
+            → IsWithin (state_of self.new) (reach (state_of self.old) + 1)) }
     {
         if self.refused.is_some() {
             return Ok(());
         }
-        self.go_on(Mode::first(self.place.fresh, byte), byte)
+        self.go_on(Mode::first(self.place.at_line_start, byte), byte)
     }
 
     /// The first of two points is a token, and the last is open.
     fn give_back(&mut self) -> Result<(), AllocError>
-        requires { IsWithin (reading self.old) 4194304 }
-        ensures ok { OnOk result (IsParted true (reading self.old) (reading self.new)) }
-        ensures within { OnOk result (IsWithin (reading self.new) (reach (reading self.old))) }
+        requires { IsWithin (state_of self.old) 4194304 }
+        ensures ok { OnOk result (IsParted true (state_of self.old) (state_of self.new)) }
+        ensures within { OnOk result (IsWithin (state_of self.new) (reach (state_of self.old))) }
     {
         match self.text.pop() {
             None => Ok(()),
@@ -158,9 +164,9 @@ impl Reader {
 
     /// Two points that no third follows are two tokens.
     fn part_points(&mut self, next: Option<u8>) -> Result<(), AllocError>
-        requires { IsWithin (reading self.old) 4194304 }
-        ensures ok { OnOk result (IsParted (is_pair self.old.mode next) (reading self.old) (reading self.new)) }
-        ensures within { OnOk result (IsWithin (reading self.new) (reach (reading self.old))) }
+        requires { IsWithin (state_of self.old) 4194304 }
+        ensures ok { OnOk result (IsParted (is_pair self.old.mode next) (state_of self.old) (state_of self.new)) }
+        ensures within { OnOk result (IsWithin (state_of self.new) (reach (state_of self.old))) }
     {
         if is_pair(self.mode, next) {
             self.give_back()
@@ -169,11 +175,15 @@ impl Reader {
         }
     }
 
-    /// The byte goes on with the open part, or ends it and begins the next; two points are no open part before another byte.
+    /// The byte goes on with the open part, or ends it and begins the next; two points are no open part before
+    /// another byte.
     fn follow(&mut self, byte: u8) -> Result<(), AllocError>
-        requires { IsWithin (reading self.old) 4194303 }
-        ensures read { OnOk result ((bytes : List ℕ) → self.old.refused ≡ None → (self.old.mode ≡ Some mode.Dots → byte ≡ 46) → IsRead (Byte byte) (reading self.old) bytes → IsRead Anything (reading self.new) (bytes ++ (byte ∷ []))) }
-        ensures within { OnOk result (IsWithin (reading self.new) (reach (reading self.old) + 1)) }
+        requires { IsWithin (state_of self.old) 4194303 }
+        ensures read { OnOk result ((bytes : List ℕ) → self.old.refused ≡ None
+            → (self.old.mode ≡ Some mode.Dots → byte ≡ 46)
+            → IsRead (Byte byte) (state_of self.old) bytes
+            → IsRead Anything (state_of self.new) (bytes ++ (byte ∷ []))) }
+        ensures within { OnOk result (IsWithin (state_of self.new) (reach (state_of self.old) + 1)) }
     {
         match self.next(byte) {
             Some(mode) => self.go_on(mode, byte),
@@ -186,9 +196,10 @@ impl Reader {
 
     /// Takes the next byte.
     fn take(&mut self, byte: u8) -> Result<(), AllocError>
-        requires { IsWithin (reading self.old) 4194303 }
-        ensures read { OnOk result ((bytes : List ℕ) → IsRead Anything (reading self.old) bytes → IsRead Anything (reading self.new) (bytes ++ (byte ∷ []))) }
-        ensures within { OnOk result (IsWithin (reading self.new) (reach (reading self.old) + 1)) }
+        requires { IsWithin (state_of self.old) 4194303 }
+        ensures read { OnOk result ((bytes : List ℕ) → IsRead Anything (state_of self.old) bytes
+            → IsRead Anything (state_of self.new) (bytes ++ (byte ∷ []))) }
+        ensures within { OnOk result (IsWithin (state_of self.new) (reach (state_of self.old) + 1)) }
     {
         if self.refused.is_some() {
             return Ok(());
@@ -200,9 +211,10 @@ impl Reader {
     /// Takes the next bytes.
     pub(crate) fn take_all(&mut self, piece: &[u8]) -> Result<(), AllocError>
         requires placed { IsPlaced self.old.place }
-        requires room { reach (reading self.old) + length piece.now ≤ 4194304 }
-        ensures read { OnOk result ((bytes : List ℕ) → IsRead Anything (reading self.old) bytes → IsRead Anything (reading self.new) (bytes ++ piece.now)) }
-        ensures within { OnOk result (IsWithin (reading self.new) (reach (reading self.old) + length piece.now)) }
+        requires room { reach (state_of self.old) + length piece.now ≤ 4194304 }
+        ensures read { OnOk result ((bytes : List ℕ) → IsRead Anything (state_of self.old) bytes
+            → IsRead Anything (state_of self.new) (bytes ++ piece.now)) }
+        ensures within { OnOk result (IsWithin (state_of self.new) (reach (state_of self.old) + length piece.now)) }
     {
         for byte in piece {
             self.take(*byte)?;
@@ -212,8 +224,9 @@ impl Reader {
 
     /// Nothing comes any more: ends what is open.
     pub(crate) fn finish(&mut self) -> Result<(), AllocError>
-        requires { IsWithin (reading self.old) 4194304 }
-        ensures read { OnOk result ((bytes : List ℕ) → IsRead Anything (reading self.old) bytes → IsRead End (reading self.new) bytes) }
+        requires { IsWithin (state_of self.old) 4194304 }
+        ensures read { OnOk result ((bytes : List ℕ) → IsRead Anything (state_of self.old) bytes
+            → IsRead End (state_of self.new) bytes) }
         ensures whole { OnOk result (self.new.refused ≡ None → self.new.mode ≡ None) }
     {
         if self.refused.is_some() {
@@ -225,9 +238,11 @@ impl Reader {
 
     /// The tokens that were read, or why there are none, where nothing comes any more.
     pub(crate) fn into_tokens(mut self) -> Result<Tokens, LexFault>
-        requires { IsWithin (reading self) greatest_size }
-        ensures tokens { IfOk result (λ stream. (bytes : List ℕ) → IsRead Anything (reading self) bytes → AreTokens bytes stream) }
-        ensures refused { IfErr result (λ fault. (bytes : List ℕ) → IsRead Anything (reading self) bytes → IsUnread bytes fault) }
+        requires { IsWithin (state_of self) greatest_size }
+        ensures tokens { IfOk result (λ stream. (bytes : List ℕ) → IsRead Anything (state_of self) bytes
+            → AreTokens bytes stream) }
+        ensures refused { IfErr result (λ fault. (bytes : List ℕ) → IsRead Anything (state_of self) bytes
+            → IsReadFault bytes fault) }
     {
         self.finish()?;
         match self.refused {

@@ -1,9 +1,11 @@
+//! Reads the token that a whole text spells (6.4).
+
 ghost use Rattle.std.specs.Prelude.{◌≡◌, ◌&&◌, not, IfOk, IfSome, IfNone, slice_index};
 ghost use Rattle.std.specs.List.{list_all};
 ghost use Rattle.c_lexer.specs.Bytes as bytes;
 ghost use Rattle.c_lexer.specs.Marks.{mark_text};
 ghost use Rattle.c_lexer.specs.Words as words;
-ghost use Rattle.c_lexer.specs.Parts.{IsToken, IsNoOther};
+ghost use Rattle.c_lexer.specs.LexicalParts.{IsToken, IsNoOther};
 ghost use Rattle.c_lexer.specs.declared.punct.Punct.{Punct};
 ghost use Rattle.c_lexer.specs.declared.token.Body.{Body};
 
@@ -19,7 +21,8 @@ use std::alloc::{AllocError, Global};
 
 /// A letter and word bytes, and no word of the language that is not taken.
 fn is_identifier(text: &[u8]) -> bool
-    ensures { result ≡ (bytes.is_letter (slice_index text.now 0) && (list_all bytes.is_word_byte text.now && not (words.is_outside text.now))) }
+    ensures { result ≡ (bytes.is_letter (slice_index text.now 0)
+        && (list_all bytes.is_word_byte text.now && not (words.is_outside text.now))) }
 {
     match text {
         [] => false,

@@ -1,3 +1,5 @@
+//! Tests: values of each class of tokens, where parts end, and refusals with their places.
+
 use crate::characters::{character_of, literal_of};
 use crate::fault::LexFault;
 use crate::lexer::{Lexer, lex};
@@ -148,35 +150,36 @@ fn lex_by_bytes(alloc: Global, bytes: &[u8]) -> Result<Tokens, LexFault> {
     lexer.finish()
 }
 
-// Where one part ends and the next begins: 6.4p4 and its example, 6.4.9p3, and the rules of directive lines.
+/// Where one part ends and the next begins: 6.4p4 and its example, 6.4.9p3, and the rules of directive lines.
+const PARTS: [(&[u8], &[u8]); 22] = [
+    (b"", b""),
+    (b"a+++b", b"|a|++|+|b"),
+    (b"x>>=1", b"|x|>>=|1"),
+    (b"x+++++y", b"|x|++|++|+|y"),
+    (b"...", b"|..."),
+    (b"..a", b"|.|.|a"),
+    (b"..", b"|.|."),
+    (b"a->b.c", b"|a|->|b|.|c"),
+    (b"1uL+0x1F", b"|1uL|+|0x1F"),
+    (b"L'a'L\"b\"L", b"|L'a'|L\"b\"|L"),
+    (b"\"a\" L\"b\"", b"|\"a\"|L\"b\""),
+    (b"m = n//**/o\n+ p;", b"|m|=|n|+|p|;"),
+    (b"a/*\"*/b\"/*\"c", b"|a|b|\"/*\"|c"),
+    (b"a/=/**/b/c", b"|a|/=|b|/|c"),
+    (b"/* **/a", b"|a"),
+    (b"'\\''\"\\\"\"", b"|'\\''|\"\\\"\""),
+    (b"# 1 \"a.c\"\nb", b"|b"),
+    (b" /**/ #include <stdio.h>\na", b"|a"),
+    (b"a\n#pragma once", b"|a"),
+    (b"#define __STDC_WANT_LIB_EXT1__ 1\n;", b"|;"),
+    (b"'\xe9'/*\xe9*/a", b"|'\xe9'|a"),
+    (b"_Bool b1", b"|_Bool|b1"),
+];
+
 #[test]
 fn parts(rt: HostRuntime) -> Result<(), Fail> {
     let alloc = rt.alloc();
-    let all: [(&[u8], &[u8]); 22] = [
-        (b"", b""),
-        (b"a+++b", b"|a|++|+|b"),
-        (b"x>>=1", b"|x|>>=|1"),
-        (b"x+++++y", b"|x|++|++|+|y"),
-        (b"...", b"|..."),
-        (b"..a", b"|.|.|a"),
-        (b"..", b"|.|."),
-        (b"a->b.c", b"|a|->|b|.|c"),
-        (b"1uL+0x1F", b"|1uL|+|0x1F"),
-        (b"L'a'L\"b\"L", b"|L'a'|L\"b\"|L"),
-        (b"\"a\" L\"b\"", b"|\"a\"|L\"b\""),
-        (b"m = n//**/o\n+ p;", b"|m|=|n|+|p|;"),
-        (b"a/*\"*/b\"/*\"c", b"|a|b|\"/*\"|c"),
-        (b"a/=/**/b/c", b"|a|/=|b|/|c"),
-        (b"/* **/a", b"|a"),
-        (b"'\\''\"\\\"\"", b"|'\\''|\"\\\"\""),
-        (b"# 1 \"a.c\"\nb", b"|b"),
-        (b" /**/ #include <stdio.h>\na", b"|a"),
-        (b"a\n#pragma once", b"|a"),
-        (b"#define __STDC_WANT_LIB_EXT1__ 1\n;", b"|;"),
-        (b"'\xe9'/*\xe9*/a", b"|'\xe9'|a"),
-        (b"_Bool b1", b"|_Bool|b1"),
-    ];
-    for (bytes, parts) in all {
+    for (bytes, parts) in PARTS {
         match lex(alloc, bytes) {
             Ok(tokens) => {
                 let found = cut(alloc, bytes, &tokens)?;

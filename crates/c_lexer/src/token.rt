@@ -1,15 +1,20 @@
+//! Tokens, with their values and places (6.4).
+
 use crate::number::Number;
 use crate::punct::Punct;
 use crate::units::Units;
 use crate::word::Word;
 use critical_table::{Name, Pos};
 
-/// A token (6.4), the bytes that spell it, from `from` up to `to`, counted from 0, and the place of the first of them.
+/// A token (6.4) with the bytes that spell it.
 #[derive(Debug, Drop)]
 pub struct Token {
     pub body: Body,
+    /// The index of its first byte in the unit, from 0.
     pub from: u32,
+    /// The index behind its last byte.
     pub to: u32,
+    /// The place of its first byte.
     pub pos: Pos,
 }
 

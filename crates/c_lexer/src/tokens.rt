@@ -1,3 +1,5 @@
+//! The tokens of a whole unit.
+
 ghost use Rattle.std.specs.Prelude.{◌≡◌, length, option_copied};
 ghost use Rattle.std.specs.List.{slice_get};
 

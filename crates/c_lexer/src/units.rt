@@ -1,3 +1,5 @@
+//! The values that a string literal is made of (6.4.5).
+
 ghost use Rattle.std.specs.Prelude.{◌≡◌, length, IfOk};
 ghost use Rattle.std.specs.List.{slice_get};
 

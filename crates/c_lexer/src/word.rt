@@ -1,3 +1,5 @@
+//! The words of the language, and the table of their spellings (6.4.1).
+
 ghost use Rattle.std.specs.Prelude.{◌≡◌, IfSome, IfNone};
 ghost use Rattle.c_lexer.specs.Words as spec;
 ghost use Rattle.c_lexer.specs.declared.word.Word.{Word};

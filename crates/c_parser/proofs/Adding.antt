@@ -1,5 +1,6 @@
 -- What a node whose parts are lists adds to a scope, by these lists.
-use Rattle.std.proofs.Common.{◌≡◌, Bool, true, cond, List, [], ◌∷◌, ◌++◌, map, refl, ◌∙◌, ap, Vec, Global, Box, Option, Some}
+use Rattle.std.proofs.Common.{◌≡◌, Bool, true, cond, List, [], ◌∷◌, ◌++◌, map, refl, ◌∙◌, ap, Vec, Global, Box}
+use Rattle.std.proofs.Common.{Option, Some}
 use Rattle.std.specs.List.{flat_map}
 use Rattle.critical_table.specs.declared.pos.Pos.{Pos}
 use Rattle.c_syntax.specs.declared.expression.Expr as e
@@ -13,9 +14,12 @@ use Rattle.c_syntax.specs.declared.specifier.MemberDeclaration as m
 use Rattle.c_syntax.specs.declared.specifier.Enumerator as n
 use Rattle.c_syntax.specs.declared.type_name.TypeName as t
 use Rattle.c_syntax.specs.Tree as tree
-use Rattle.c_syntax.specs.Scopes.{expr_adds, exprs_add, type_name_adds, specifier_adds, specifiers_add, member_adds, members_add, declarator_adds, declarators_add, enumerator_adds, enumerators_add, parameter_adds, parameters_add}
+use Rattle.c_syntax.specs.Scopes.{expr_adds, exprs_add, type_name_adds, specifier_adds, specifiers_add, member_adds}
+use Rattle.c_syntax.specs.Scopes.{members_add, declarator_adds, declarators_add, enumerator_adds, enumerators_add}
+use Rattle.c_syntax.specs.Scopes.{parameter_adds, parameters_add}
 use Rattle.c_syntax.specs.ScopesUnit.{is_identifier, own_parameters, own_parameters_add}
-use Rattle.c_syntax.specs.View.{expr_of, exprs, specifier_of, specifiers_of, declarator_of, declarators, parameter_of, parameters, member_of, members, enumerator_of, enumerators, type_name_of}
+use Rattle.c_syntax.specs.View.{expr_of, exprs, specifier_of, specifiers_of, declarator_of, declarators, parameter_of}
+use Rattle.c_syntax.specs.View.{parameters, member_of, members, enumerator_of, enumerators, type_name_of}
 use Rattle.c_syntax.proofs.Rows.{exprs_listed, specifiers_listed, parameters_listed, members_listed, enumerators_listed}
 
 -- ---- lists
@@ -27,7 +31,8 @@ exprs_listed_add (first ∷ rest) = ap (λ more. expr_adds (expr_of first) ++ mo
 pub specifiers_listed_add : (all : List s.Specifier)
     → specifiers_add (specifiers_of all) ≡ flat_map (λ x. specifier_adds (specifier_of x)) all
 specifiers_listed_add [] = refl
-specifiers_listed_add (first ∷ rest) = ap (λ more. specifier_adds (specifier_of first) ++ more) (specifiers_listed_add rest)
+specifiers_listed_add (first ∷ rest) =
+    ap (λ more. specifier_adds (specifier_of first) ++ more) (specifiers_listed_add rest)
 
 members_listed_add : (all : List m.MemberDeclaration)
     → members_add (members (map member_of all)) ≡ flat_map (λ x. member_adds (member_of x)) all
@@ -37,17 +42,20 @@ members_listed_add (first ∷ rest) = ap (λ more. member_adds (member_of first)
 declarators_listed_add : (all : List d.Declarator)
     → declarators_add (declarators (map declarator_of all)) ≡ flat_map (λ x. declarator_adds (declarator_of x)) all
 declarators_listed_add [] = refl
-declarators_listed_add (first ∷ rest) = ap (λ more. declarator_adds (declarator_of first) ++ more) (declarators_listed_add rest)
+declarators_listed_add (first ∷ rest) =
+    ap (λ more. declarator_adds (declarator_of first) ++ more) (declarators_listed_add rest)
 
 enumerators_listed_add : (all : List n.Enumerator)
     → enumerators_add (enumerators (map enumerator_of all)) ≡ flat_map (λ x. enumerator_adds (enumerator_of x)) all
 enumerators_listed_add [] = refl
-enumerators_listed_add (first ∷ rest) = ap (λ more. enumerator_adds (enumerator_of first) ++ more) (enumerators_listed_add rest)
+enumerators_listed_add (first ∷ rest) =
+    ap (λ more. enumerator_adds (enumerator_of first) ++ more) (enumerators_listed_add rest)
 
 pub parameters_listed_add : (all : List p.Parameter)
     → parameters_add (parameters (map parameter_of all)) ≡ flat_map (λ x. parameter_adds (parameter_of x)) all
 parameters_listed_add [] = refl
-parameters_listed_add (first ∷ rest) = ap (λ more. parameter_adds (parameter_of first) ++ more) (parameters_listed_add rest)
+parameters_listed_add (first ∷ rest) =
+    ap (λ more. parameter_adds (parameter_of first) ++ more) (parameters_listed_add rest)
 
 -- ---- nodes
 
@@ -61,7 +69,8 @@ pub call_adds : (pos : Pos) (function : Box e.Expr Global) (all : Vec e.Expr Glo
 unfolding arguments_row
 call_adds pos function all =
     let row = arguments_row (e.Call pos function all) in
-    ap (λ list. expr_adds (expr_of function.value) ++ exprs_add list) (exprs_listed row.0 row.1 ∙ ap (λ list. exprs (map expr_of list)) (e.items_hidden-the_row-Expr-2 all))
+    ap (λ list. expr_adds (expr_of function.value) ++ exprs_add list) (exprs_listed row.0 row.1
+    ∙ ap (λ list. exprs (map expr_of list)) (e.items_hidden-the_row-Expr-2 all))
     ∙ ap (λ list. expr_adds (expr_of function.value) ++ list) (exprs_listed_add all.items)
 
 measure_row : e.Expr → (count : _) × s.Row_of-Specifier count
@@ -88,7 +97,8 @@ unfolding cast_row
 cast_adds pos type operand =
     let row = cast_row (e.Cast pos type operand) in
     ap
-    (λ list. (specifiers_add list ++ declarator_adds (declarator_of type.value.declarator)) ++ expr_adds (expr_of operand.value))
+    (λ list. (specifiers_add list ++ declarator_adds (declarator_of type.value.declarator))
+    ++ expr_adds (expr_of operand.value))
     (specifiers_listed row.0 row.1 ∙ ap specifiers_of (s.items_hidden-the_row-Specifier-0 type.value.specifiers))
 
 members_of : s.Specifier → (count : _) × s.Row_of-MemberDeclaration count
@@ -96,11 +106,13 @@ members_of (s.Compound' _ _ _ _ row) = (_, row)
 members_of _ = (_, s.end_of-MemberDeclaration)
 
 pub compound_adds : (pos : Pos) (compound : CompoundWord) (tag : Option Tag) (all : Vec m.MemberDeclaration Global)
-    → specifier_adds (specifier_of (s.Compound pos compound tag all)) ≡ flat_map (λ x. member_adds (member_of x)) all.items
+    → specifier_adds (specifier_of (s.Compound pos compound tag all))
+    ≡ flat_map (λ x. member_adds (member_of x)) all.items
 unfolding members_of
 compound_adds pos compound tag all =
     let row = members_of (s.Compound pos compound tag all) in
-    ap members_add (members_listed row.0 row.1 ∙ ap (λ list. members (map member_of list)) (s.items_hidden-the_row-MemberDeclaration-4 all))
+    ap members_add (members_listed row.0 row.1
+    ∙ ap (λ list. members (map member_of list)) (s.items_hidden-the_row-MemberDeclaration-4 all))
     ∙ members_listed_add all.items
 
 enumerators_of : s.Specifier → (count : _) × s.Row_of-Enumerator count
@@ -108,11 +120,13 @@ enumerators_of (s.Enum' _ _ _ row _) = (_, row)
 enumerators_of _ = (_, s.end_of-Enumerator)
 
 pub enum_adds : (pos : Pos) (tag : Option Tag) (all : Vec n.Enumerator Global) (comma : Bool)
-    → specifier_adds (specifier_of (s.Enum pos tag all comma)) ≡ flat_map (λ x. enumerator_adds (enumerator_of x)) all.items
+    → specifier_adds (specifier_of (s.Enum pos tag all comma))
+    ≡ flat_map (λ x. enumerator_adds (enumerator_of x)) all.items
 unfolding enumerators_of
 enum_adds pos tag all comma =
     let row = enumerators_of (s.Enum pos tag all comma) in
-    ap enumerators_add (enumerators_listed row.0 row.1 ∙ ap (λ list. enumerators (map enumerator_of list)) (s.items_hidden-the_row-Enumerator-5 all))
+    ap enumerators_add (enumerators_listed row.0 row.1
+    ∙ ap (λ list. enumerators (map enumerator_of list)) (s.items_hidden-the_row-Enumerator-5 all))
     ∙ enumerators_listed_add all.items
 
 parameters_row_of : d.Declarator → (count : _) × d.Row_of-Parameter count
@@ -129,9 +143,11 @@ own_parameters_listed inner all variadic named =
     let row = parameters_row_of (d.FunctionOf inner all variadic) in
     ap
     (λ list. own_parameters_add (own_parameters (tree.FunctionOf (declarator_of inner.value) list variadic)))
-    (parameters_listed row.0 row.1 ∙ ap (λ list. parameters (map parameter_of list)) (d.items_hidden-the_row-Parameter-1 all))
+    (parameters_listed row.0 row.1
+    ∙ ap (λ list. parameters (map parameter_of list)) (d.items_hidden-the_row-Parameter-1 all))
     ∙ ap
-    (λ first. own_parameters_add (cond first (Some (parameters (map parameter_of all.items))) (own_parameters (declarator_of inner.value))))
+    (λ first. own_parameters_add
+    (cond first (Some (parameters (map parameter_of all.items))) (own_parameters (declarator_of inner.value))))
     named
     ∙ parameters_listed_add all.items
 

@@ -1,8 +1,9 @@
 -- What the program knows of a scope's names, as entries come and go.
-use Rattle.std.proofs.Common.{◌≡◌, ℕ, Bool, true, false, cond, List, [], ◌∷◌, ◌++◌, map, Option, Some, None, Result, Ok, Err, refl, sym, ◌∙◌, ap}
+use Rattle.std.proofs.Common.{◌≡◌, ℕ, Bool, true, false, cond, List, [], ◌∷◌, ◌++◌, map, Option, Some, None, Result}
+use Rattle.std.proofs.Common.{Ok, Err, refl, sym, ◌∙◌, ap, subst}
 use Rattle.std.specs.BTreeMap.{BTreeMap, get, Updates}
 use Rattle.std.specs.Cmp.Lexicographic.{slice_cmp, texts_ties}
-use Rattle.std.specs.Option.{unwrap_or}
+use Rattle.std.specs.Option.{unwrap_or, option_to_list}
 use Rattle.std.specs.Ordering.{nat_cmp, is_eq}
 use Rattle.std.specs.Result.{OnOk, OnErr}
 use Rattle.std.specs.Str.{bytes_eq}
@@ -42,8 +43,10 @@ pub kept_more : (entries : List Entry) (last : Entry) (old new : BTreeMap (List 
     → IsKept entries old → last.hidden ≡ get (slice_cmp nat_cmp) old last.name
     → Updates (slice_cmp nat_cmp) old new last.name (Some last.names_type) → IsKept (entries ++ last ∷ []) new
 kept_more entries last old new kept hidden updates = record {
-  known = λ x. updates.0 x ∙ ap (λ here. cond here (Some last.names_type) (get (slice_cmp nat_cmp) old x)) (found_at last.name x)
-      ∙ ap (cond (bytes_eq last.name x) (Some last.names_type)) (kept.known x) ∙ sym (known_more none_known entries last x);
+  known = λ x. updates.0 x
+      ∙ ap (λ here. cond here (Some last.names_type) (get (slice_cmp nat_cmp) old x)) (found_at last.name x)
+      ∙ ap (cond (bytes_eq last.name x) (Some last.names_type)) (kept.known x)
+      ∙ sym (known_more none_known entries last x);
   hidden = hides_more none_known entries last kept.hidden (hidden ∙ kept.known last.name);
 }
 
@@ -54,12 +57,13 @@ behind_hidden : (before : Known) (last : Entry) (x : List ℕ) → last.hidden �
 behind_hidden before last x here true same = here ∙ ap before ((bytes_eq-Decides last.name x).0 same)
 behind_hidden before last x here false same = refl
 
-pub kept_less : (entries : List Entry) (last : Entry) (old new : BTreeMap (List ℕ) Bool)
+kept_less : (entries : List Entry) (last : Entry) (old new : BTreeMap (List ℕ) Bool)
     → IsKept (entries ++ last ∷ []) old → Updates (slice_cmp nat_cmp) old new last.name last.hidden → IsKept entries new
 kept_less entries last old new kept updates = record {
   known = λ x. updates.0 x ∙ ap (λ here. cond here last.hidden (get (slice_cmp nat_cmp) old x)) (found_at last.name x)
       ∙ ap (cond (bytes_eq last.name x) last.hidden) (kept.known x ∙ known_more none_known entries last x)
-      ∙ behind_hidden (known_from none_known entries) last x (last_hides none_known entries last kept.hidden) (bytes_eq last.name x) refl;
+      ∙ behind_hidden (known_from none_known entries) last x (last_hides none_known entries last kept.hidden)
+      (bytes_eq last.name x) refl;
   hidden = hides_less none_known entries last kept.hidden;
 }
 
@@ -68,15 +72,41 @@ kept_last : (entries : List Entry) (last : Entry) (names : BTreeMap (List ℕ) B
     → IsKept (entries ++ last ∷ []) names → get (slice_cmp nat_cmp) names last.name ≡ Some last.names_type
 kept_last entries last names kept =
     kept.known last.name ∙ known_more none_known entries last last.name
-    ∙ ap (λ same. cond same (Some last.names_type) (known_from none_known entries last.name)) ((bytes_eq-Decides last.name last.name).1 refl)
+    ∙ ap (λ same. cond same (Some last.names_type) (known_from none_known entries last.name))
+    ((bytes_eq-Decides last.name last.name).1 refl)
 
 -- so that what it hid goes in its place without fail
-pub kept_put : {A E : Type 0} (result : Result A E) (entries : List Entry) (last : Entry) (old new : BTreeMap (List ℕ) Bool)
+put_back : {A E : Type 0} (result : Result A E) (entries : List Entry) (last : Entry)
+    (old new : BTreeMap (List ℕ) Bool)
     → OnOk result (Updates (slice_cmp nat_cmp) old new last.name last.hidden)
-    → OnErr result (get (slice_cmp nat_cmp) old last.name ≡ None) → IsKept (entries ++ last ∷ []) old → IsKept entries new
-kept_put (Ok value) entries last old new updates absent kept = kept_less entries last old new kept updates
-kept_put (Err fault) entries last old new updates absent kept =
+    → OnErr result (get (slice_cmp nat_cmp) old last.name ≡ None) → IsKept (entries ++ last ∷ []) old
+    → IsKept entries new
+put_back (Ok value) entries last old new updates absent kept = kept_less entries last old new kept updates
+put_back (Err fault) entries last old new updates absent kept =
     let found : Some last.names_type ≡ None = sym (kept_last entries last old kept) ∙ absent in cc
+
+-- ---- the last entry is taken away, which hid this
+
+pub last_popped : (entries all : List Entry) (popped : Option Entry) (last : Entry)
+    → all ≡ entries ++ option_to_list popped → popped ≡ Some last → all ≡ entries ++ last ∷ []
+last_popped entries all popped last items is = items ∙ ap (λ popped. entries ++ option_to_list popped) is
+
+module _ (entries all : List Entry) (last : Entry) (hidden : Option Bool) (old new : BTreeMap (List ℕ) Bool)
+    (items : all ≡ entries ++ last ∷ []) (hid : last.hidden ≡ hidden) (kept : IsKept all old) where
+  -- the name goes from the map
+  pub kept_removed : Updates (slice_cmp nat_cmp) old new last.name hidden → IsKept entries new
+  kept_removed updates =
+      kept_less entries last old new (subst (λ all. IsKept all old) items kept)
+      (subst (λ hidden. Updates (slice_cmp nat_cmp) old new last.name hidden) (sym hid) updates)
+
+  -- or gets back what it was
+  pub kept_put : {A E : Type 0} (result : Result A E)
+      → OnOk result (Updates (slice_cmp nat_cmp) old new last.name hidden)
+      → OnErr result (get (slice_cmp nat_cmp) old last.name ≡ None) → IsKept entries new
+  kept_put result updates absent =
+      put_back result entries last old new
+      (subst (λ hidden. OnOk result (Updates (slice_cmp nat_cmp) old new last.name hidden)) (sym hid) updates)
+      absent (subst (λ all. IsKept all old) items kept)
 
 -- ---- a look-up
 
@@ -86,7 +116,8 @@ one_known true names_type before = refl
 one_known false names_type before = refl
 
 is_type_known : (before : Known) (entries : List Entry) (x : List ℕ)
-    → is_type_from (unwrap_or (before x) false) (map (λ e. record { name = e.name; names_type = e.names_type }) entries) x
+    → is_type_from (unwrap_or (before x) false)
+    (map (λ e. record { name = e.name; names_type = e.names_type }) entries) x
     ≡ unwrap_or (known_from before entries x) false
 is_type_known before [] x = refl
 is_type_known before (first ∷ rest) x =

@@ -1,11 +1,13 @@
+-- Lemmas on the functions of the parser.
 mod NextToken
-mod LowerReaders
+mod LowerParsers
 mod Turns
 mod Refused
 mod Pushed
 mod PushedDeclarator
 mod Adding
 mod ManyTurns
+mod ItemTurns
 mod SpecifierTurns
 mod ClimbTurns
 mod ListTurns

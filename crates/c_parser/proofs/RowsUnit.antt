@@ -5,7 +5,7 @@ use Rattle.c_syntax.specs.declared.expression.Expr as e
 use Rattle.c_syntax.specs.declared.statement.Statement as s
 use Rattle.c_syntax.specs.declared.statement.BlockItem as b
 use Rattle.c_syntax.specs.declared.statement.SwitchItem as w
-use Rattle.c_syntax.specs.ReadBody.{switch_items}
+use Rattle.c_syntax.specs.ViewUnit.{switch_items}
 use Rattle.c_syntax.specs.TreeUnit.{Block, MoreBlockItems, Switch, MoreSwitchItems}
 use Rattle.c_syntax.specs.View.{expr_of}
 use Rattle.c_syntax.specs.ViewUnit.{statement_of, block_item_of, block_row, block_items, switch_item_of, switch_row}
@@ -18,17 +18,20 @@ block_listed count (s.more_of-BlockItem first rest) = ap (MoreBlockItems (block_
 switch_listed : (count : _) (row : s.Row_of-SwitchItem count)
     → switch_row row ≡ switch_items (map switch_item_of (s.items-the_row-SwitchItem count row))
 switch_listed count s.end_of-SwitchItem = refl
-switch_listed count (s.more_of-SwitchItem first rest) = ap (MoreSwitchItems (switch_item_of first)) (switch_listed _ rest)
+switch_listed count (s.more_of-SwitchItem first rest) =
+    ap (MoreSwitchItems (switch_item_of first)) (switch_listed _ rest)
 
 row_of_block : s.Statement → (count : _) × s.Row_of-BlockItem count
 row_of_block (s.Block' _ row) = (_, row)
 row_of_block _ = (_, s.end_of-BlockItem)
 
-pub block_tree : (all : Vec b.BlockItem Global) → statement_of (s.Block all) ≡ Block (block_items (map block_item_of all.items))
+pub block_tree : (all : Vec b.BlockItem Global)
+    → statement_of (s.Block all) ≡ Block (block_items (map block_item_of all.items))
 unfolding row_of_block
 block_tree all =
     let row = row_of_block (s.Block all) in
-    ap Block (block_listed row.0 row.1 ∙ ap (λ list. block_items (map block_item_of list)) (s.items_hidden-the_row-BlockItem-0 all))
+    ap Block (block_listed row.0 row.1
+    ∙ ap (λ list. block_items (map block_item_of list)) (s.items_hidden-the_row-BlockItem-0 all))
 
 row_of_switch : s.Statement → (count : _) × s.Row_of-SwitchItem count
 row_of_switch (s.Switch' _ _ _ row) = (_, row)
@@ -40,4 +43,5 @@ unfolding row_of_switch
 switch_tree pos test all =
     let row = row_of_switch (s.Switch pos test all) in
     ap (Switch pos (expr_of test))
-    (switch_listed row.0 row.1 ∙ ap (λ list. switch_items (map switch_item_of list)) (s.items_hidden-the_row-SwitchItem-1 all))
+    (switch_listed row.0 row.1
+    ∙ ap (λ list. switch_items (map switch_item_of list)) (s.items_hidden-the_row-SwitchItem-1 all))

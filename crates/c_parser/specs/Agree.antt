@@ -1,4 +1,4 @@
--- What a function of the program ensures: it gives what a reader gives, unless memory runs out.
+-- What a function of the program ensures: it gives what a parser gives, unless memory runs out.
 use Rattle.std.specs.Prelude.{◌≡◌, List, Result, Ok, Err}
 use denote.Ref.{Bor}
 use Rattle.critical_table.specs.declared.refusal.Refusal.TheVariants.{Syntax, Deep}
@@ -9,20 +9,20 @@ use Rattle.c_parser.specs.declared.fault.Fault.TheVariants as fault
 use Rattle.c_parser.specs.declared.fault.SyntaxFault.{SyntaxFault}
 use Rattle.c_parser.specs.declared.fault.SyntaxFault.TheVariants as syntax
 use Rattle.c_syntax.specs.Parsing.{RefusedAt}
-use Rattle.c_syntax.specs.Reader.{Got, Found, Stopped, Unfit, TooDeep}
+use Rattle.c_reading.specs.Parser.{Outcome, Found, Stopped, Unfit, TooDeep}
 
-abbrev pub Refuses : {Y : Type 0} → Got Y → Fault → Type 0
+abbrev pub Refuses : {Y : Type 0} → Outcome Y → Fault → Type 0
 Refuses got (fault.Unfit rest) = got ≡ Stopped Unfit rest.now
 Refuses got (fault.TooDeep rest) = got ≡ Stopped TooDeep rest.now
 Refuses got (fault.Memory _) = Unit {0}
 
 -- the value by this view, and the rest
-abbrev pub Gives : {X Y : Type 0} → (X → Y) → Got Y → Result (X × Bor (List Token)) Fault → Type 0
+abbrev pub Gives : {X Y : Type 0} → (X → Y) → Outcome Y → Result (X × Bor (List Token)) Fault → Type 0
 Gives view got (Ok x) = got ≡ Found (view x.0) x.1.now
 Gives view got (Err e) = Refuses got e
 
 -- no value but the rest
-abbrev pub GivesRest : Got (Unit {0}) → Result (Bor (List Token)) Fault → Type 0
+abbrev pub GivesRest : Outcome (Unit {0}) → Result (Bor (List Token)) Fault → Type 0
 GivesRest got (Ok rest) = got ≡ Found tt rest.now
 GivesRest got (Err e) = Refuses got e
 

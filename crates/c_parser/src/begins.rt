@@ -3,9 +3,9 @@
 ghost use Rattle.std.specs.Prelude.{◌≡◌, Some};
 ghost use Rattle.c_lexer.specs.declared.token.Body.{Body};
 ghost use Rattle.c_syntax.specs.First as first;
-ghost use Rattle.c_syntax.specs.ReadExpr as expressions;
-ghost use Rattle.c_syntax.specs.Reader.{seen};
-ghost use Rattle.c_syntax.specs.ReadToken as spec;
+ghost use Rattle.c_reading.specs.ReadExpr as expressions;
+ghost use Rattle.c_reading.specs.Parser.{next_body};
+ghost use Rattle.c_reading.specs.ReadToken as spec;
 
 use crate::scope::Scope;
 use c_lexer::{Body, Punct, Token, Word};
@@ -42,7 +42,7 @@ fn is_specifier_word(word: Word) -> bool
 
 /// Whether the next token begins a declaration specifier.
 pub(crate) fn begins_type(scope: &Scope, tokens: &[Token]) -> bool
-    ensures { result ≡ spec.begins_type scope.now (seen tokens.now) }
+    ensures { result ≡ spec.begins_type scope.now (next_body tokens.now) }
 {
     match tokens {
         [
@@ -65,7 +65,7 @@ pub(crate) fn begins_type(scope: &Scope, tokens: &[Token]) -> bool
 
 /// The prefix operator (6.5.3) that the next token is, if it is one.
 pub(crate) fn prefix_of(tokens: &[Token]) -> Option<Prefix>
-    ensures { result ≡ spec.prefix_of (seen tokens.now) }
+    ensures { result ≡ spec.prefix_of (next_body tokens.now) }
 {
     match tokens {
         [
@@ -97,7 +97,7 @@ fn prefix_mark(mark: Punct) -> Option<Prefix>
 
 /// Whether the next token begins an expression.
 pub(crate) fn begins_expr(scope: &Scope, tokens: &[Token]) -> bool
-    ensures { result ≡ expressions.begins_expr scope.now (seen tokens.now) }
+    ensures { result ≡ expressions.begins_expr scope.now (next_body tokens.now) }
 {
     match tokens {
         [

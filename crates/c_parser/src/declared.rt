@@ -43,7 +43,8 @@ pub(crate) fn declare_own_name(
     names_type: bool,
     declarator: &Declarator,
 ) -> Result<(), AllocError>
-    ensures { IfOk result (λ _. scope.new ≡ scope.old ++ names.declared_if names_type (names.own_name (declarator_of declarator.now))) }
+    ensures { IfOk result (λ _. scope.new
+        ≡ scope.old ++ names.declared_if names_type (names.own_name (declarator_of declarator.now))) }
 {
     if let Some(name) = own_name(declarator) {
         scope.declare(alloc, name, names_type)?;

@@ -80,7 +80,8 @@ fn declare_specifiers(
     scope: &mut Scope,
     list: &[Specifier],
 ) -> Result<(), AllocError>
-    ensures { IfOk result (λ _. scope.new ≡ scope.old ++ flat_map (λ s. spec.specifier_adds (view.specifier_of s)) list.now) }
+    ensures { IfOk result (λ _. scope.new
+        ≡ scope.old ++ flat_map (λ s. spec.specifier_adds (view.specifier_of s)) list.now) }
 {
     for each in list {
         declare_specifier(alloc, scope, each)?;
@@ -141,7 +142,8 @@ fn declare_declarators(
     scope: &mut Scope,
     list: &[Declarator],
 ) -> Result<(), AllocError>
-    ensures { IfOk result (λ _. scope.new ≡ scope.old ++ flat_map (λ d. spec.declarator_adds (view.declarator_of d)) list.now) }
+    ensures { IfOk result (λ _. scope.new
+        ≡ scope.old ++ flat_map (λ d. spec.declarator_adds (view.declarator_of d)) list.now) }
 {
     for each in list {
         declare_declarator(alloc, scope, each)?;
@@ -156,7 +158,8 @@ fn declare_enumerators(
     scope: &mut Scope,
     list: &[Enumerator],
 ) -> Result<(), AllocError>
-    ensures { IfOk result (λ _. scope.new ≡ scope.old ++ flat_map (λ n. spec.enumerator_adds (view.enumerator_of n)) list.now) }
+    ensures { IfOk result (λ _. scope.new
+        ≡ scope.old ++ flat_map (λ n. spec.enumerator_adds (view.enumerator_of n)) list.now) }
 {
     for each in list {
         declare_enumerator(alloc, scope, each)?;
@@ -202,7 +205,8 @@ fn declare_parameters(
     scope: &mut Scope,
     list: &[Parameter],
 ) -> Result<(), AllocError>
-    ensures { IfOk result (λ _. scope.new ≡ scope.old ++ flat_map (λ p. spec.parameter_adds (view.parameter_of p)) list.now) }
+    ensures { IfOk result (λ _. scope.new
+        ≡ scope.old ++ flat_map (λ p. spec.parameter_adds (view.parameter_of p)) list.now) }
 {
     for each in list {
         declare_parameter(alloc, scope, each)?;
@@ -237,7 +241,8 @@ pub(crate) fn declare_own_parameters(
     scope: &mut Scope,
     declarator: &Declarator,
 ) -> Result<(), AllocError>
-    ensures { IfOk result (λ _. scope.new ≡ scope.old ++ unit.own_parameters_add (unit.own_parameters (view.declarator_of declarator.now))) }
+    ensures { IfOk result (λ _. scope.new
+        ≡ scope.old ++ unit.own_parameters_add (unit.own_parameters (view.declarator_of declarator.now))) }
 {
     match declarator {
         Declarator::Omitted => Ok(()),

@@ -1,3 +1,5 @@
+//! Why a unit, or a part of one, has no tree.
+
 use c_lexer::Token;
 use critical_table::Pos;
 use std::alloc::{AllocError, AllocFailed};

@@ -2,7 +2,7 @@
 
 ghost use Rattle.std.specs.Prelude.{◌≡◌, ◌≤◌};
 ghost use Rattle.c_syntax.specs.Levels as spec;
-ghost use Rattle.c_syntax.specs.ReadExpr.{own_level as level_of_tree};
+ghost use Rattle.c_reading.specs.ReadExpr.{own_level as level_of_tree};
 ghost use Rattle.c_syntax.specs.View.{expr_of};
 
 use c_syntax::expression::Expr;

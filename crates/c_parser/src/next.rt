@@ -1,6 +1,8 @@
+//! The next token, and what it is.
+
 ghost use Rattle.std.specs.Prelude.{◌≡◌, option_copied};
-ghost use Rattle.c_syntax.specs.Reader as reader;
-ghost use Rattle.c_syntax.specs.ReadToken as spec;
+ghost use Rattle.c_reading.specs.Parser as parser;
+ghost use Rattle.c_reading.specs.ReadToken as spec;
 ghost use Rattle.c_parser.specs.Agree.{GivesRest};
 
 use crate::fault::Fault;
@@ -9,8 +11,8 @@ use c_syntax::specifier::Qualifier;
 use critical_table::Pos;
 
 /// The next token, if there is one.
-pub(crate) fn seen(tokens: &[Token]) -> Option<&Body>
-    ensures { option_copied result ≡ reader.seen tokens.now }
+pub(crate) fn next_body(tokens: &[Token]) -> Option<&Body>
+    ensures { option_copied result ≡ parser.next_body tokens.now }
 {
     match tokens {
         [] => None,
@@ -20,7 +22,7 @@ pub(crate) fn seen(tokens: &[Token]) -> Option<&Body>
 
 /// What is left behind the next token.
 pub(crate) fn tail(tokens: &[Token]) -> &[Token]
-    ensures { result.now ≡ reader.tail tokens.now }
+    ensures { result.now ≡ parser.tail tokens.now }
 {
     match tokens {
         [] => tokens,
@@ -30,7 +32,7 @@ pub(crate) fn tail(tokens: &[Token]) -> &[Token]
 
 /// The place of the next token; of no token the first one of a unit.
 pub(crate) fn place(tokens: &[Token]) -> Pos
-    ensures { result ≡ reader.place tokens.now }
+    ensures { result ≡ parser.place tokens.now }
 {
     match tokens {
         [] => Pos { line: 1, column: 1 },
@@ -40,9 +42,9 @@ pub(crate) fn place(tokens: &[Token]) -> Pos
 
 /// Whether the next token is this mark.
 pub(crate) fn is_mark(tokens: &[Token], mark: Punct) -> bool
-    ensures { result ≡ spec.is_mark mark (reader.seen tokens.now) }
+    ensures { result ≡ spec.is_mark mark (parser.next_body tokens.now) }
 {
-    match seen(tokens) {
+    match next_body(tokens) {
         Some(Body::Mark(next)) => *next == mark,
         _ => false,
     }
@@ -50,9 +52,9 @@ pub(crate) fn is_mark(tokens: &[Token], mark: Punct) -> bool
 
 /// Whether the next token is this word.
 pub(crate) fn is_word(tokens: &[Token], word: Word) -> bool
-    ensures { result ≡ spec.is_word word (reader.seen tokens.now) }
+    ensures { result ≡ spec.is_word word (parser.next_body tokens.now) }
 {
-    match seen(tokens) {
+    match next_body(tokens) {
         Some(Body::Word(next)) => *next == word,
         _ => false,
     }
@@ -60,7 +62,7 @@ pub(crate) fn is_word(tokens: &[Token], word: Word) -> bool
 
 /// Past this mark, which has to stand here.
 pub(crate) fn expect(tokens: &[Token], mark: Punct) -> Result<&[Token], Fault<'_>>
-    ensures { GivesRest (reader.exactly (spec.is_mark mark) tokens.now) result }
+    ensures { GivesRest (parser.expect (spec.is_mark mark) tokens.now) result }
 {
     if is_mark(tokens, mark) {
         return Ok(tail(tokens));
@@ -70,7 +72,7 @@ pub(crate) fn expect(tokens: &[Token], mark: Punct) -> Result<&[Token], Fault<'_
 
 /// The type qualifier that stands here (6.7.3).
 pub(crate) fn qualifier_of(tokens: &[Token]) -> Option<Qualifier>
-    ensures { result ≡ spec.qualifier_of (reader.seen tokens.now) }
+    ensures { result ≡ spec.qualifier_of (parser.next_body tokens.now) }
 {
     match tokens {
         [

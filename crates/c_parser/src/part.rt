@@ -1,3 +1,5 @@
+//! Nodes with their heights.
+
 ghost use Rattle.std.specs.Prelude.{◌≡◌, ◌++◌, ◌∷◌, [], max, IfOk};
 
 use std::alloc::{AllocError, Global};

@@ -1,3 +1,5 @@
+//! How expressions, specifiers and declarators are read.
+
 mod compound;
 mod declarator;
 mod enumeration;

@@ -1,3 +1,5 @@
+//! The names in scope (6.2.1): a map to what each is, and a list of what each declaration hid.
+
 ghost use Rattle.std.specs.Prelude.{◌≡◌, ◌++◌, ◌∷◌, ◌≤◌, ◌-◌, [], length, map, take, true, IfOk};
 ghost use Rattle.c_syntax.specs.Scopes as spec;
 
@@ -70,7 +72,8 @@ impl Scope {
 
     /// Declares typedef names.
     fn declare_types(&mut self, alloc: Global, names: &[&[u8]]) -> Result<(), AllocError>
-        ensures { IfOk result (λ _. self.new ≡ self.old ++ map (λ x. record { name = x.now; names_type = true }) names.now) }
+        ensures { IfOk result (λ _. self.new
+            ≡ self.old ++ map (λ x. record { name = x.now; names_type = true }) names.now) }
     {
         for bytes in names {
             let name = Name::new(alloc, bytes)?;

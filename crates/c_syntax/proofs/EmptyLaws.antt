@@ -2,13 +2,16 @@
 use Rattle.std.proofs.Common.{◌≡◌, Bool, true, false, List, [], ◌∷◌, ◌++◌, refl}
 use Rattle.c_syntax.specs.declared.spelled.Spelled.{Spelled}
 use Rattle.c_syntax.specs.Tree.{Declarator, Omitted, Name, DParen, PointerTo, ArrayOf, FunctionOf}
-use Rattle.c_syntax.specs.TreeUnit.{Initializer, Single, Braces, Item, Plain, ForMember, ForIndex, Statement, Block, ExprStmt, If, IfElse, Switch, While, Do, For, Break, Continue, Return, BlockItem, Declared, Asserted, Done, SwitchItem, Case, Default, Within, External, Defines, Declaring, Asserting, Tree}
+use Rattle.c_syntax.specs.TreeUnit as unit
+use Rattle.c_syntax.specs.TreeUnit.{Initializer, Item, Statement, BlockItem, SwitchItem, External, Tree}
 use Rattle.c_syntax.specs.First.{IsFirst}
 use Rattle.c_syntax.specs.Scopes.{Scope, predeclared}
 use Rattle.c_syntax.specs.Spelling.{spell_declarator}
-use Rattle.c_syntax.specs.SpellingUnit.{spell_initializer, spell_item, spell_statement, spell_block_item, spell_switch_item, spell_external, spell_tree}
+use Rattle.c_syntax.specs.SpellingUnit.{spell_initializer, spell_item, spell_statement, spell_block_item}
+use Rattle.c_syntax.specs.SpellingUnit.{spell_switch_item, spell_external, spell_tree}
 use Rattle.c_syntax.specs.WellFormed.{HasToken}
-use Rattle.c_syntax.specs.WellFormedUnit.{IsInitializer, IsItem, IsStatement, IsBlockItem, IsSwitchItem, IsExternal, IsTree, AreExternals}
+use Rattle.c_syntax.specs.WellFormedUnit.{IsInitializer, IsItem, IsStatement, IsBlockItem, IsSwitchItem, IsExternal}
+use Rattle.c_syntax.specs.WellFormedUnit.{IsTree, AreExternals}
 use Rattle.c_syntax.proofs.FirstLaws.{first_expr, first_declaration}
 
 some_first : (begins : Bool) (scope : Scope) (all : List Spelled) → IsFirst begins scope all → all ≡ [] → ⊥
@@ -23,6 +26,7 @@ more_some : (front : List Spelled) (first : Spelled) (more : List Spelled) → f
 more_some [] first more e = cc (e)
 more_some (other ∷ front) first more e = cc (e)
 
+-- by class; a declarator needs a token beside an omitted identifier
 pub some_declarator : (declarator : Declarator) → HasToken declarator → spell_declarator declarator ≡ [] → ⊥
 some_declarator Omitted has e = has
 some_declarator (Name pos x) has e = cc (e)
@@ -33,44 +37,44 @@ some_declarator (FunctionOf inner parameters variadic) has e = more_some _ _ _ e
 
 pub some_initializer : (initializer : Initializer) (scope : Scope)
     → IsInitializer initializer scope → spell_initializer initializer ≡ [] → ⊥
-some_initializer (Single expr) scope is e = some_first false scope _ (first_expr expr scope _ is) e
-some_initializer (Braces pos items comma) scope is e = cc (e)
+some_initializer (unit.Single expr) scope is e = some_first false scope _ (first_expr expr scope _ is) e
+some_initializer (unit.Braces pos items comma) scope is e = cc (e)
 
 pub some_item : (item : Item) (scope : Scope) → IsItem item scope → spell_item item ≡ [] → ⊥
-some_item (Plain initializer) scope is e = some_initializer initializer scope is e
-some_item (ForMember pos x initializer) scope is e = cc (e)
-some_item (ForIndex pos index initializer) scope is e = cc (e)
+some_item (unit.Plain initializer) scope is e = some_initializer initializer scope is e
+some_item (unit.ForMember pos x initializer) scope is e = cc (e)
+some_item (unit.ForIndex pos index initializer) scope is e = cc (e)
 
 pub some_statement : (statement : Statement) (scope : Scope)
     → IsStatement statement scope → spell_statement statement ≡ [] → ⊥
-some_statement (Block items) scope is e = cc (e)
-some_statement (ExprStmt expr) scope is e = more_some _ _ _ e
-some_statement (If pos test then) scope is e = cc (e)
-some_statement (IfElse pos test then else) scope is e = cc (e)
-some_statement (Switch pos test items) scope is e = cc (e)
-some_statement (While pos test turn) scope is e = cc (e)
-some_statement (Do pos turn test) scope is e = cc (e)
-some_statement (For pos init test step turn) scope is e = cc (e)
-some_statement (Break pos) scope is e = cc (e)
-some_statement (Continue pos) scope is e = cc (e)
-some_statement (Return pos value) scope is e = cc (e)
+some_statement (unit.Block items) scope is e = cc (e)
+some_statement (unit.ExprStmt expr) scope is e = more_some _ _ _ e
+some_statement (unit.If pos test then) scope is e = cc (e)
+some_statement (unit.IfElse pos test then else) scope is e = cc (e)
+some_statement (unit.Switch pos test items) scope is e = cc (e)
+some_statement (unit.While pos test body) scope is e = cc (e)
+some_statement (unit.Do pos body test) scope is e = cc (e)
+some_statement (unit.For pos init test step body) scope is e = cc (e)
+some_statement (unit.Break pos) scope is e = cc (e)
+some_statement (unit.Continue pos) scope is e = cc (e)
+some_statement (unit.Return pos value) scope is e = cc (e)
 
 pub some_block_item : (item : BlockItem) (scope : Scope) → IsBlockItem item scope → spell_block_item item ≡ [] → ⊥
-some_block_item (Declared declaration) scope is e =
+some_block_item (unit.Declared declaration) scope is e =
     some_first true scope _ (first_declaration declaration scope is) e
-some_block_item (Asserted assert) scope is e = cc (e)
-some_block_item (Done statement) scope is e = some_statement statement scope is e
+some_block_item (unit.Asserted assert) scope is e = cc (e)
+some_block_item (unit.Executes statement) scope is e = some_statement statement scope is e
 
 pub some_switch_item : (item : SwitchItem) (scope : Scope) → IsSwitchItem item scope → spell_switch_item item ≡ [] → ⊥
-some_switch_item (Case pos value) scope is e = cc (e)
-some_switch_item (Default pos) scope is e = cc (e)
-some_switch_item (Within item) scope is e = some_block_item item scope is e
+some_switch_item (unit.Case pos value) scope is e = cc (e)
+some_switch_item (unit.Default pos) scope is e = cc (e)
+some_switch_item (unit.InBlock item) scope is e = some_block_item item scope is e
 
 pub some_external : (external : External) (scope : Scope) → IsExternal external scope → spell_external external ≡ [] → ⊥
-some_external (Defines function) scope is e = more_some _ _ _ e
-some_external (Declaring declaration) scope is e =
+some_external (unit.Defines function) scope is e = more_some _ _ _ e
+some_external (unit.Declaring declaration) scope is e =
     some_first true scope _ (first_declaration declaration scope is) e
-some_external (Asserting assert) scope is e = cc (e)
+some_external (unit.Asserting assert) scope is e = cc (e)
 
 pub some_tree : (tree : Tree) → IsTree tree → spell_tree tree ≡ [] → ⊥
 some_tree tree is e = by tree.externals is.0 is.1 e

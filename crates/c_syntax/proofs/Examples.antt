@@ -7,7 +7,8 @@ use Rattle.c_syntax.specs.declared.operator.Infix.TheVariants as between
 use Rattle.c_syntax.specs.declared.operator.Prefix.TheVariants.{Minus, SizeExpr}
 use Rattle.c_syntax.specs.declared.specifier.BasicWord.TheVariants.{Int, Unsigned}
 use Rattle.c_syntax.specs.declared.specifier.Qualifier.TheVariants as qualifier
-use Rattle.c_syntax.specs.Tree.{Expr, Id, Call, Prefix', Cast, Infix', NoExpr, MoreExprs, Without, Type', Specifiers, Qualifier', BasicWord', Enum, TypedefName, NoSpecifier, MoreSpecifiers, Enumerates, NoEnumerator, MoreEnumerators, Omitted, Name, DParen, PointerTo, ArrayOf, FunctionOf, Param, NoParameter, MoreParameters}
+use Rattle.c_syntax.specs.Tree as tree
+use Rattle.c_syntax.specs.Tree.{Expr, Specifiers}
 use Rattle.c_syntax.specs.TreeUnit.{Statement, ExprStmt, If, IfElse, While, Do}
 use Rattle.c_syntax.specs.Levels.{expression}
 use Rattle.c_syntax.specs.Scopes.{Scope}
@@ -25,16 +26,16 @@ abbrev pub hidden : Scope
 hidden = typed ++ record { name = codes "T"; names_type = false } ∷ []
 
 abbrev pub a : Expr
-a = Id here (codes "a")
+a = tree.Id here (codes "a")
 
 abbrev pub t : Expr
-t = Id here (codes "T")
+t = tree.Id here (codes "T")
 
 abbrev minus : Expr → Expr → Expr
-minus left right = Infix' here (between.Arithmetic Subtract) left right
+minus left right = tree.InfixOp here (between.Arithmetic Subtract) left right
 
 abbrev pub times : Expr → Expr → Expr
-times left right = Infix' here (between.Arithmetic Multiply) left right
+times left right = tree.InfixOp here (between.Arithmetic Multiply) left right
 
 -- ---- precedence and association
 
@@ -54,21 +55,23 @@ pub looser : IsExpr (times a (minus a a)) [] expression → ⊥
 looser is = omega (arith, is.2.0)
 
 -- f(a, a) has two arguments, a comma expression is none
-pub comma_argument : IsExpr (Call here a (MoreExprs (Infix' here between.Comma a a) NoExpr)) [] expression → ⊥
+pub comma_argument : IsExpr (tree.Call here a (tree.MoreExprs (tree.InfixOp here between.Comma a a) tree.NoExpr)) []
+    expression → ⊥
 comma_argument is = omega (arith, is.2.0.0)
 
 -- -a = a is well-formed, and is refused by a later rule; -a - a = a isn't
-pub assigned : IsExpr (Infix' here between.Assign (Prefix' here Minus a) a) [] expression
+pub assigned : IsExpr (tree.InfixOp here between.Assign (tree.PrefixOp here Minus a) a) [] expression
 assigned = (omega arith, (omega arith, refl), refl)
 
-pub assigned_sum : IsExpr (Infix' here between.Assign (minus a a) a) [] expression → ⊥
+pub assigned_sum : IsExpr (tree.InfixOp here between.Assign (minus a a) a) [] expression → ⊥
 assigned_sum is = omega (arith, is.1.0)
 
 abbrev pub int : Specifiers
-int = MoreSpecifiers (BasicWord' here Int) NoSpecifier
+int = tree.MoreSpecifiers (tree.BasicType here Int) tree.NoSpecifier
 
 -- sizeof (int) * a is no cast under sizeof
-pub sizeof_cast : IsExpr (Prefix' here SizeExpr (Cast here (Type' int Omitted) a)) [] expression → ⊥
+pub sizeof_cast : IsExpr (tree.PrefixOp here SizeExpr (tree.Cast here (tree.NamedType int tree.Omitted) a)) []
+    expression → ⊥
 sizeof_cast is = omega (arith, is.1.0)
 
 -- ---- names
@@ -81,56 +84,68 @@ pub product_of_type : IsExpr (times t a) typed expression → ⊥
 product_of_type is = cc (is.1)
 
 abbrev pub named : Specifiers
-named = MoreSpecifiers (TypedefName here (codes "T")) NoSpecifier
+named = tree.MoreSpecifiers (tree.TypedefName here (codes "T")) tree.NoSpecifier
 
 -- (T) - a
-pub cast_of_type : IsExpr (Cast here (Type' named Omitted) (Prefix' here Minus a)) typed expression
+pub cast_of_type : IsExpr (tree.Cast here (tree.NamedType named tree.Omitted) (tree.PrefixOp here Minus a)) typed
+    expression
 cast_of_type = (omega arith, (inr (refl, refl), (refl, tt), tt, refl), (omega arith, refl))
 
-pub cast_of_hidden : IsExpr (Cast here (Type' named Omitted) (Prefix' here Minus a)) hidden expression → ⊥
+pub cast_of_hidden : IsExpr (tree.Cast here (tree.NamedType named tree.Omitted) (tree.PrefixOp here Minus a)) hidden
+    expression → ⊥
 cast_of_hidden is = cc (is.1.1.0)
 
 -- (enum {T})a - T, where T was a type before
-pub enumerator_hides : IsExpr (minus (Cast here (Type' (MoreSpecifiers (Enum here None (MoreEnumerators (Enumerates here (codes "T") Without) NoEnumerator) false) NoSpecifier) Omitted) a) t) typed expression
+pub enumerator_hides
+    : IsExpr (minus
+    (tree.Cast here
+    (tree.NamedType
+    (tree.MoreSpecifiers
+    (tree.Enum here None (tree.MoreEnumerators (tree.Enumerates here (codes "T") tree.Without) tree.NoEnumerator)
+    false) tree.NoSpecifier) tree.Omitted) a) t) typed expression
 enumerator_hides = (omega arith, (omega arith, (inr (refl, refl), ((tt, (tt, tt)), tt), tt, refl), refl), refl)
 
 -- ---- specifiers and declarators
 
 -- unsigned T has T for no type, and const alone no type
-pub unsigned_type : SpecifyOneType (MoreSpecifiers (BasicWord' here Unsigned) named) → ⊥
+pub unsigned_type : SpecifyOneType (tree.MoreSpecifiers (tree.BasicType here Unsigned) named) → ⊥
 unsigned_type (inl one) = cc (one.1)
 unsigned_type (inr one) = cc (one.0)
 
-pub const_alone : SpecifyOneType (MoreSpecifiers (Qualifier' here qualifier.Const) NoSpecifier) → ⊥
+pub const_alone : SpecifyOneType (tree.MoreSpecifiers (tree.TypeQualifier here qualifier.Const) tree.NoSpecifier) → ⊥
 const_alone (inl one) = omega (arith, one.0)
 const_alone (inr one) = cc (one.1)
 
-pub const_type : SpecifyOneType (MoreSpecifiers (Qualifier' here qualifier.Const) named)
+pub const_type : SpecifyOneType (tree.MoreSpecifiers (tree.TypeQualifier here qualifier.Const) named)
 const_type = inr (refl, refl)
 
 -- the parameter int (T): a function that takes a T, or T itself where T is no type
-pub parameter_takes_type : IsParameter (Param int (FunctionOf Omitted (MoreParameters (Param named Omitted) NoParameter) false)) typed
+pub parameter_takes_type
+    : IsParameter
+    (tree.Param int
+    (tree.FunctionOf tree.Omitted (tree.MoreParameters (tree.Param named tree.Omitted) tree.NoParameter) false)) typed
 parameter_takes_type =
     (inl (omega arith, refl), (tt, tt), (tt, tt, ((inr (refl, refl), (refl, tt), tt, tt), tt), tt), tt)
 
-pub parameter_of_type : IsParameter (Param int (DParen (Name here (codes "T")))) typed → ⊥
+pub parameter_of_type : IsParameter (tree.Param int (tree.DParen (tree.Name here (codes "T")))) typed → ⊥
 parameter_of_type is = cc (is.3.0)
 
-pub parameter_of_no_type : IsParameter (Param int (DParen (Name here (codes "T")))) hidden
+pub parameter_of_no_type : IsParameter (tree.Param int (tree.DParen (tree.Name here (codes "T")))) hidden
 parameter_of_no_type = (inl (omega arith, refl), (tt, tt), (tt, tt), (refl, tt))
 
 -- int (*T) is T itself
-pub pointer_parameter : IsParameter (Param int (DParen (PointerTo [] (Name here (codes "T"))))) typed
+pub pointer_parameter : IsParameter (tree.Param int (tree.DParen (tree.PointerTo [] (tree.Name here (codes "T")))))
+    typed
 pointer_parameter = (inl (omega arith, refl), (tt, tt), (tt, tt), (tt, tt))
 
 -- no () around an omitted identifier, no array of a pointer without parentheses, no ... alone
-pub empty_parentheses : IsDeclarator (DParen Omitted) [] → ⊥
+pub empty_parentheses : IsDeclarator (tree.DParen tree.Omitted) [] → ⊥
 empty_parentheses is = is.0
 
-pub array_of_pointer : IsDeclarator (ArrayOf (PointerTo [] (Name here (codes "a"))) Without) [] → ⊥
+pub array_of_pointer : IsDeclarator (tree.ArrayOf (tree.PointerTo [] (tree.Name here (codes "a"))) tree.Without) [] → ⊥
 array_of_pointer is = is.0
 
-pub ellipsis_alone : IsDeclarator (FunctionOf Omitted NoParameter true) [] → ⊥
+pub ellipsis_alone : IsDeclarator (tree.FunctionOf tree.Omitted tree.NoParameter true) [] → ⊥
 ellipsis_alone is = is.3
 
 -- ---- statements

@@ -5,8 +5,9 @@ use Rattle.critical_table.specs.declared.refusal.Refusal.TheVariants.{Syntax}
 use Rattle.c_syntax.specs.declared.expression.Constant.TheVariants as constant
 use Rattle.c_syntax.specs.declared.specifier.BasicWord.TheVariants.{Void}
 use Rattle.c_syntax.specs.declared.spelled.Spelled.{Spelled}
-use Rattle.c_syntax.specs.Tree.{Expr, Const, Paren, BasicWord', NoSpecifier, MoreSpecifiers, Omitted, Name, FunctionOf, Param, NoParameter, MoreParameters}
-use Rattle.c_syntax.specs.TreeUnit.{Return, Done, NoBlockItem, MoreBlockItems, Defines, Declaring, Tree}
+use Rattle.c_syntax.specs.Tree as tree
+use Rattle.c_syntax.specs.Tree.{Expr}
+use Rattle.c_syntax.specs.TreeUnit.{Return, Executes, NoBlockItem, MoreBlockItems, Defines, Declaring, Tree}
 use Rattle.c_syntax.specs.Height.{height}
 use Rattle.c_syntax.specs.HeightUnit.{tree_height}
 use Rattle.c_syntax.specs.Levels.{expression}
@@ -19,19 +20,21 @@ use Rattle.c_syntax.proofs.EmptyLaws.{some_tree}
 use Rattle.c_syntax.proofs.Examples.{here, int}
 
 abbrev nought : Expr
-nought = Const here (constant.Number (record { value = 0; decimal = true; unsigned = false; longs = 0 }))
+nought = tree.Const here (constant.Number (record { value = 0; decimal = true; unsigned = false; longs = 0 }))
 
 abbrev in_parentheses : ℕ → Expr → Expr
 in_parentheses zero expr = expr
-in_parentheses (suc n) expr = Paren (in_parentheses n expr)
+in_parentheses (suc n) expr = tree.Paren (in_parentheses n expr)
 
 -- int main(void) {return expr;}
 abbrev main_returns : Expr → Tree
 main_returns expr = record {
   externals = Defines (record {
     specifiers = int;
-    declarator = FunctionOf (Name here (codes "main")) (MoreParameters (Param (MoreSpecifiers (BasicWord' here Void) NoSpecifier) Omitted) NoParameter) false;
-    body = MoreBlockItems (Done (Return here (Some expr))) NoBlockItem;
+    declarator = tree.FunctionOf (tree.Name here (codes "main"))
+        (tree.MoreParameters (tree.Param (tree.MoreSpecifiers (tree.BasicType here Void) tree.NoSpecifier)
+        tree.Omitted) tree.NoParameter) false;
+    body = MoreBlockItems (Executes (Return here (Some expr))) NoBlockItem;
   }) ∷ [];
   end = here;
 }
@@ -44,7 +47,14 @@ main_fits : (n : ℕ) → IsTree (main_returns (in_parentheses n nought))
 main_fits n = (
   λ e. cc (e),
   (
-    (inl (omega arith, refl), (tt, tt), (tt, tt, ((inl (omega arith, refl), (tt, tt), tt, tt), tt), tt), refl, refl, (parentheses_fit n _, tt)),
+    (
+      inl (omega arith, refl),
+      (tt, tt),
+      (tt, tt, ((inl (omega arith, refl), (tt, tt), tt, tt), tt), tt),
+      refl,
+      refl,
+      (parentheses_fit n _, tt),
+    ),
     tt,
   ),
 )

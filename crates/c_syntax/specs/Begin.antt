@@ -4,15 +4,24 @@ use Rattle.c_lexer.specs.declared.token.Token.{Token}
 use Rattle.c_syntax.specs.declared.spelled.Spelled.{Spelled}
 use Rattle.c_syntax.specs.Tokens.{Match}
 use Rattle.c_syntax.specs.Scopes.{Scope}
-use Rattle.c_syntax.specs.Spelling.{spell, spell_type_name, spell_specifiers, spell_declarator, spell_parameter, spell_member}
-use Rattle.c_syntax.specs.SpellingUnit.{spell_initializer, spell_item, spell_declaration, spell_assert, spell_statement, spell_block_item, spell_switch_item, spell_external, spell_tree}
-use Rattle.c_syntax.specs.Height.{height, type_name_height, specifiers_height, declarator_height, parameter_height, member_height}
-use Rattle.c_syntax.specs.HeightUnit.{initializer_height, item_height, declaration_height, assert_height, statement_height, block_item_height, switch_item_height, external_height, tree_height}
-use Rattle.c_syntax.specs.WellFormed.{SpecifyOneType, IsExpr, IsTypeName, AreSpecifiers, IsDeclarator, IsParameter, IsMember}
-use Rattle.c_syntax.specs.WellFormedUnit.{IsInitializer, IsItem, IsDeclaration, IsAssert, IsStatement, IsBlockItem, IsSwitchItem, IsExternal, IsTree}
+use Rattle.c_syntax.specs.Spelling.{spell, spell_type_name, spell_specifiers, spell_declarator, spell_parameter}
+use Rattle.c_syntax.specs.Spelling.{spell_member}
+use Rattle.c_syntax.specs.SpellingUnit.{spell_initializer, spell_item, spell_declaration, spell_assert}
+use Rattle.c_syntax.specs.SpellingUnit.{spell_statement, spell_block_item, spell_switch_item, spell_external}
+use Rattle.c_syntax.specs.SpellingUnit.{spell_tree}
+use Rattle.c_syntax.specs.Height.{height, type_name_height, specifiers_height, declarator_height, parameter_height}
+use Rattle.c_syntax.specs.Height.{member_height}
+use Rattle.c_syntax.specs.HeightUnit.{initializer_height, item_height, declaration_height, assert_height}
+use Rattle.c_syntax.specs.HeightUnit.{statement_height, block_item_height, switch_item_height, external_height}
+use Rattle.c_syntax.specs.HeightUnit.{tree_height}
+use Rattle.c_syntax.specs.WellFormed.{SpecifyOneType, IsExpr, IsTypeName, AreSpecifiers, IsDeclarator, IsParameter}
+use Rattle.c_syntax.specs.WellFormed.{IsMember}
+use Rattle.c_syntax.specs.WellFormedUnit.{IsInitializer, IsItem, IsDeclaration, IsAssert, IsStatement, IsBlockItem}
+use Rattle.c_syntax.specs.WellFormedUnit.{IsSwitchItem, IsExternal, IsTree}
 
 -- the spelling of some node that fits, of this height at most, begins with these tokens
-pub record Begins {A : Type 0} (Fits : A → Type 0) (tall : A → ℕ) (spelled : A → List Spelled) (most : ℕ) (tokens : List Token) : Type 0 where
+pub record Begins {A : Type 0} (Fits : A → Type 0) (tall : A → ℕ) (spelled : A
+    → List Spelled) (most : ℕ) (tokens : List Token) : Type 0 where
   pub node : A
   pub front : List Spelled
   pub more : List Spelled

@@ -1,7 +1,7 @@
 -- The first token of expressions and of declaration specifiers, by which they are told apart.
 use Rattle.std.specs.Prelude.{◌≡◌, Bool, true, false, List, [], ◌∷◌}
 use Rattle.c_lexer.specs.declared.token.Body.{Body}
-use Rattle.c_lexer.specs.declared.token.Body.TheVariants as body
+use Rattle.c_lexer.specs.declared.token.Body.TheVariants as lexeme
 use Rattle.c_lexer.specs.declared.word.Word.{Word}
 use Rattle.c_lexer.specs.declared.word.Word.TheVariants as w
 use Rattle.c_syntax.specs.declared.spelled.Spelled.{Spelled}
@@ -33,8 +33,8 @@ is_specifier_word _ = false
 
 -- the token begins a declaration specifier where this is the scope
 abbrev pub begins_specifier : Scope → Body → Bool
-begins_specifier scope (body.Word word) = is_specifier_word word
-begins_specifier scope (body.Name x) = is_type scope x
+begins_specifier scope (lexeme.Word word) = is_specifier_word word
+begins_specifier scope (lexeme.Name x) = is_type scope x
 begins_specifier scope _ = false
 
 -- there is a first token, and it begins a declaration specifier or, as is asked, none

@@ -1,3 +1,4 @@
+-- Trees of C, their spelling, which are well-formed, and what a parser answers.
 pub mod Tree
 pub mod TreeUnit
 pub mod View
@@ -16,9 +17,3 @@ pub mod WellFormedUnit
 pub mod Begin
 pub mod Parsing
 pub mod First
-pub mod Reader
-pub mod ReadToken
-pub mod ReadExpr
-pub mod ReadDeclarator
-pub mod ReadSpecifier
-pub mod ReadBody

@@ -2,7 +2,7 @@
 use Rattle.c_lexer.specs.declared.punct.Punct.{Punct}
 use Rattle.c_lexer.specs.declared.punct.Punct.TheVariants as p
 use Rattle.c_lexer.specs.declared.token.Body.{Body}
-use Rattle.c_lexer.specs.declared.token.Body.TheVariants as body
+use Rattle.c_lexer.specs.declared.token.Body.TheVariants as lexeme
 use Rattle.c_lexer.specs.declared.word.Word.{Word}
 use Rattle.c_lexer.specs.declared.word.Word.TheVariants as w
 use Rattle.c_syntax.specs.declared.expression.Constant.{Constant}
@@ -32,8 +32,8 @@ use Rattle.c_syntax.specs.declared.specifier.Storage.TheVariants as storage
 
 -- 6.4.4
 abbrev pub constant_token : Constant → Body
-constant_token (constant.Number number) = body.Number number
-constant_token (constant.Character value wide) = body.Character value wide
+constant_token (constant.Number number) = lexeme.Number number
+constant_token (constant.Character value wide) = lexeme.Character value wide
 
 -- 6.5.2.3
 abbrev pub access_token : Access → Punct
@@ -47,15 +47,15 @@ postfix_token postfix.PostDec = p.Decrement
 
 -- 6.5.3
 abbrev pub prefix_token : Prefix → Body
-prefix_token prefix.PreInc = body.Mark p.Increment
-prefix_token prefix.PreDec = body.Mark p.Decrement
-prefix_token prefix.AddressOf = body.Mark p.Ampersand
-prefix_token prefix.Deref = body.Mark p.Star
-prefix_token prefix.Plus = body.Mark p.Plus
-prefix_token prefix.Minus = body.Mark p.Minus
-prefix_token prefix.Flip = body.Mark p.Tilde
-prefix_token prefix.Not = body.Mark p.Exclamation
-prefix_token prefix.SizeExpr = body.Word w.Sizeof
+prefix_token prefix.PreInc = lexeme.Mark p.Increment
+prefix_token prefix.PreDec = lexeme.Mark p.Decrement
+prefix_token prefix.AddressOf = lexeme.Mark p.Ampersand
+prefix_token prefix.Deref = lexeme.Mark p.Star
+prefix_token prefix.Plus = lexeme.Mark p.Plus
+prefix_token prefix.Minus = lexeme.Mark p.Minus
+prefix_token prefix.Flip = lexeme.Mark p.Tilde
+prefix_token prefix.Not = lexeme.Mark p.Exclamation
+prefix_token prefix.SizeExpr = lexeme.Word w.Sizeof
 
 -- 6.5.3.4
 abbrev pub measure_word : Measure → Word
@@ -76,17 +76,17 @@ arithmetic_token a.BitXor = p.Caret
 arithmetic_token a.BitOr = p.Bar
 
 -- 6.5.16.2
-abbrev pub compound_token : Arithmetic → Punct
-compound_token a.Multiply = p.StarAssign
-compound_token a.Divide = p.SlashAssign
-compound_token a.Remainder = p.PercentAssign
-compound_token a.Add = p.PlusAssign
-compound_token a.Subtract = p.MinusAssign
-compound_token a.ShiftLeft = p.ShiftLeftAssign
-compound_token a.ShiftRight = p.ShiftRightAssign
-compound_token a.BitAnd = p.AmpersandAssign
-compound_token a.BitXor = p.CaretAssign
-compound_token a.BitOr = p.BarAssign
+abbrev pub assignment_token : Arithmetic → Punct
+assignment_token a.Multiply = p.StarAssign
+assignment_token a.Divide = p.SlashAssign
+assignment_token a.Remainder = p.PercentAssign
+assignment_token a.Add = p.PlusAssign
+assignment_token a.Subtract = p.MinusAssign
+assignment_token a.ShiftLeft = p.ShiftLeftAssign
+assignment_token a.ShiftRight = p.ShiftRightAssign
+assignment_token a.BitAnd = p.AmpersandAssign
+assignment_token a.BitXor = p.CaretAssign
+assignment_token a.BitOr = p.BarAssign
 
 -- 6.5.8, 6.5.9
 abbrev pub comparison_token : Comparison → Punct
@@ -103,7 +103,7 @@ infix_token (between.Comparison operator) = comparison_token operator
 infix_token between.AndAlso = p.AndAnd
 infix_token between.OrElse = p.OrOr
 infix_token between.Assign = p.Assign
-infix_token (between.AssignOp operator) = compound_token operator
+infix_token (between.AssignOp operator) = assignment_token operator
 infix_token between.Comma = p.Comma
 
 -- 6.7.1

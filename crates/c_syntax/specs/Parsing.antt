@@ -22,7 +22,8 @@ pub record SpelledBy (stream : Stream) (tree : Tree) : Type 0 where
   pub ends : tree.end ≡ stream.end
   pub fits : IsWellFormed tree
   -- no other tree has these tokens, of whatever height
-  pub only : (other : Tree) → IsTree other → Match stream.tokens (spell_tree other) → other.end ≡ stream.end → other ≡ tree
+  pub only : (other : Tree) → IsTree other → Match stream.tokens (spell_tree other) → other.end ≡ stream.end
+      → other ≡ tree
 
 -- a refused list of tokens is too deep where, without the greatest height, some unit would begin with it
 abbrev pub IsReason : Refusal → List Token → Type 0

@@ -3,7 +3,9 @@
 use Rattle.std.specs.Prelude.{ℕ, Bool, true, false, cond, List, [], ◌∷◌, ◌++◌, map, codes, Option, Some, None}
 use Rattle.std.specs.Str.{bytes_eq}
 use Rattle.c_syntax.specs.declared.specifier.Storage.TheVariants as storage
-use Rattle.c_syntax.specs.Tree.{Expr, Const, Id, Text, Paren, Index, Call, Member, Postfix', Prefix', Measure', Cast, Infix', Cond, Exprs, NoExpr, MoreExprs, Maybe, Without, With, TypeName, Type', Specifier, Storage', Qualifier', Inline, BasicWord', CompoundTag, Compound, EnumTag, Enum, TypedefName, Specifiers, NoSpecifier, MoreSpecifiers, MemberDeclaration, Declares, Members, NoMember, MoreMembers, Declarators, NoDeclarator, MoreDeclarators, Enumerator, Enumerates, Enumerators, NoEnumerator, MoreEnumerators, Declarator, Omitted, Name, DParen, PointerTo, ArrayOf, FunctionOf, Parameter, Param, Parameters, NoParameter, MoreParameters}
+use Rattle.c_syntax.specs.Tree as tree
+use Rattle.c_syntax.specs.Tree.{Expr, Exprs, Maybe, TypeName, Specifier, Specifiers, MemberDeclaration, Members}
+use Rattle.c_syntax.specs.Tree.{Declarators, Enumerator, Enumerators, Declarator, Parameter, Parameters}
 
 -- a declared name, and whether it names a type
 pub record DeclaredName : Type 0 where
@@ -48,18 +50,18 @@ predeclared = map (λ x. record { name = x; names_type = true }) (
 
 -- int static typedef T; declares a typedef name, wherever the word stands (6.7.8)
 abbrev pub names_types : Specifiers → Bool
-names_types NoSpecifier = false
-names_types (MoreSpecifiers (Storage' pos storage.Typedef) rest) = true
-names_types (MoreSpecifiers first rest) = names_types rest
+names_types tree.NoSpecifier = false
+names_types (tree.MoreSpecifiers (tree.StorageClass pos storage.Typedef) rest) = true
+names_types (tree.MoreSpecifiers first rest) = names_types rest
 
 -- the identifier that a declarator declares (6.7.6)
 abbrev pub own_name : Declarator → Option (List ℕ)
-own_name Omitted = None
-own_name (Name pos x) = Some x
-own_name (DParen inner) = own_name inner
-own_name (PointerTo qualifiers inner) = own_name inner
-own_name (ArrayOf inner length) = own_name inner
-own_name (FunctionOf inner parameters variadic) = own_name inner
+own_name tree.Omitted = None
+own_name (tree.Name pos x) = Some x
+own_name (tree.DParen inner) = own_name inner
+own_name (tree.PointerTo qualifiers inner) = own_name inner
+own_name (tree.ArrayOf inner length) = own_name inner
+own_name (tree.FunctionOf inner parameters variadic) = own_name inner
 
 abbrev pub declared_if : Bool → Option (List ℕ) → Scope
 declared_if names_type None = []
@@ -73,82 +75,82 @@ declared_by specifiers declarator = declared_if (names_types specifiers) (own_na
 abbrev mutual
   -- (enum {A})0 + A: an enumerator is in scope in the rest of the expression
   pub expr_adds : Expr → Scope
-  expr_adds (Const pos constant) = []
-  expr_adds (Id pos x) = []
-  expr_adds (Text pos text) = []
-  expr_adds (Paren inner) = expr_adds inner
-  expr_adds (Index pos array index) = expr_adds array ++ expr_adds index
-  expr_adds (Call pos function arguments) = expr_adds function ++ exprs_add arguments
-  expr_adds (Member pos access whole x) = expr_adds whole
-  expr_adds (Postfix' pos operator operand) = expr_adds operand
-  expr_adds (Prefix' pos operator operand) = expr_adds operand
-  expr_adds (Measure' pos operator type) = type_name_adds type
-  expr_adds (Cast pos type operand) = type_name_adds type ++ expr_adds operand
-  expr_adds (Infix' pos operator left right) = expr_adds left ++ expr_adds right
-  expr_adds (Cond pos test then else) = expr_adds test ++ expr_adds then ++ expr_adds else
+  expr_adds (tree.Const pos constant) = []
+  expr_adds (tree.Id pos x) = []
+  expr_adds (tree.Text pos text) = []
+  expr_adds (tree.Paren inner) = expr_adds inner
+  expr_adds (tree.Index pos array index) = expr_adds array ++ expr_adds index
+  expr_adds (tree.Call pos function arguments) = expr_adds function ++ exprs_add arguments
+  expr_adds (tree.Member pos access whole x) = expr_adds whole
+  expr_adds (tree.PostfixOp pos operator operand) = expr_adds operand
+  expr_adds (tree.PrefixOp pos operator operand) = expr_adds operand
+  expr_adds (tree.MeasureOp pos operator type) = type_name_adds type
+  expr_adds (tree.Cast pos type operand) = type_name_adds type ++ expr_adds operand
+  expr_adds (tree.InfixOp pos operator left right) = expr_adds left ++ expr_adds right
+  expr_adds (tree.Cond pos test then else) = expr_adds test ++ expr_adds then ++ expr_adds else
 
   pub exprs_add : Exprs → Scope
-  exprs_add NoExpr = []
-  exprs_add (MoreExprs first rest) = expr_adds first ++ exprs_add rest
+  exprs_add tree.NoExpr = []
+  exprs_add (tree.MoreExprs first rest) = expr_adds first ++ exprs_add rest
 
   pub maybe_adds : Maybe → Scope
-  maybe_adds Without = []
-  maybe_adds (With expr) = expr_adds expr
+  maybe_adds tree.Without = []
+  maybe_adds (tree.With expr) = expr_adds expr
 
   pub type_name_adds : TypeName → Scope
-  type_name_adds (Type' specifiers declarator) = specifiers_add specifiers ++ declarator_adds declarator
+  type_name_adds (tree.NamedType specifiers declarator) = specifiers_add specifiers ++ declarator_adds declarator
 
   pub specifier_adds : Specifier → Scope
-  specifier_adds (Storage' pos word) = []
-  specifier_adds (Qualifier' pos word) = []
-  specifier_adds (Inline pos) = []
-  specifier_adds (BasicWord' pos word) = []
-  specifier_adds (CompoundTag pos word tag) = []
-  specifier_adds (Compound pos word tag members) = members_add members
-  specifier_adds (EnumTag pos tag) = []
-  specifier_adds (Enum pos tag enumerators comma) = enumerators_add enumerators
-  specifier_adds (TypedefName pos x) = []
+  specifier_adds (tree.StorageClass pos word) = []
+  specifier_adds (tree.TypeQualifier pos word) = []
+  specifier_adds (tree.Inline pos) = []
+  specifier_adds (tree.BasicType pos word) = []
+  specifier_adds (tree.CompoundTag pos word tag) = []
+  specifier_adds (tree.Compound pos word tag members) = members_add members
+  specifier_adds (tree.EnumTag pos tag) = []
+  specifier_adds (tree.Enum pos tag enumerators comma) = enumerators_add enumerators
+  specifier_adds (tree.TypedefName pos x) = []
 
   pub specifiers_add : Specifiers → Scope
-  specifiers_add NoSpecifier = []
-  specifiers_add (MoreSpecifiers first rest) = specifier_adds first ++ specifiers_add rest
+  specifiers_add tree.NoSpecifier = []
+  specifiers_add (tree.MoreSpecifiers first rest) = specifier_adds first ++ specifiers_add rest
 
   -- struct { enum {A} m; } adds A, and no m
   pub member_adds : MemberDeclaration → Scope
-  member_adds (Declares specifiers declarators) = specifiers_add specifiers ++ declarators_add declarators
+  member_adds (tree.Declares specifiers declarators) = specifiers_add specifiers ++ declarators_add declarators
 
   pub members_add : Members → Scope
-  members_add NoMember = []
-  members_add (MoreMembers first rest) = member_adds first ++ members_add rest
+  members_add tree.NoMember = []
+  members_add (tree.MoreMembers first rest) = member_adds first ++ members_add rest
 
   pub declarators_add : Declarators → Scope
-  declarators_add NoDeclarator = []
-  declarators_add (MoreDeclarators first rest) = declarator_adds first ++ declarators_add rest
+  declarators_add tree.NoDeclarator = []
+  declarators_add (tree.MoreDeclarators first rest) = declarator_adds first ++ declarators_add rest
 
   -- an enumerator is in scope behind its value (6.2.1p7): enum {A = 1, B = A}, and in
   -- typedef char T; enum {T = sizeof(T)}; the operand is the type
   pub enumerator_adds : Enumerator → Scope
-  enumerator_adds (Enumerates pos x value) = maybe_adds value ++ record { name = x; names_type = false } ∷ []
+  enumerator_adds (tree.Enumerates pos x value) = maybe_adds value ++ record { name = x; names_type = false } ∷ []
 
   pub enumerators_add : Enumerators → Scope
-  enumerators_add NoEnumerator = []
-  enumerators_add (MoreEnumerators first rest) = enumerator_adds first ++ enumerators_add rest
+  enumerators_add tree.NoEnumerator = []
+  enumerators_add (tree.MoreEnumerators first rest) = enumerator_adds first ++ enumerators_add rest
 
   -- beside its own identifier; parameters are in scope inside their list alone (6.2.1p4):
   -- int f(int T, int g(int T)); T x; is a declaration where T was a type before
   pub declarator_adds : Declarator → Scope
-  declarator_adds Omitted = []
-  declarator_adds (Name pos x) = []
-  declarator_adds (DParen inner) = declarator_adds inner
-  declarator_adds (PointerTo qualifiers inner) = declarator_adds inner
-  declarator_adds (ArrayOf inner length) = declarator_adds inner ++ maybe_adds length
-  declarator_adds (FunctionOf inner parameters variadic) = declarator_adds inner
+  declarator_adds tree.Omitted = []
+  declarator_adds (tree.Name pos x) = []
+  declarator_adds (tree.DParen inner) = declarator_adds inner
+  declarator_adds (tree.PointerTo qualifiers inner) = declarator_adds inner
+  declarator_adds (tree.ArrayOf inner length) = declarator_adds inner ++ maybe_adds length
+  declarator_adds (tree.FunctionOf inner parameters variadic) = declarator_adds inner
 
   -- int f(int T, int a[sizeof(T)]) has an expression between the brackets
   pub parameter_adds : Parameter → Scope
-  parameter_adds (Param specifiers declarator) =
+  parameter_adds (tree.Param specifiers declarator) =
       specifiers_add specifiers ++ declarator_adds declarator ++ declared_by specifiers declarator
 
   pub parameters_add : Parameters → Scope
-  parameters_add NoParameter = []
-  parameters_add (MoreParameters first rest) = parameter_adds first ++ parameters_add rest
+  parameters_add tree.NoParameter = []
+  parameters_add (tree.MoreParameters first rest) = parameter_adds first ++ parameters_add rest

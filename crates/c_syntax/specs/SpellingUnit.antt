@@ -8,25 +8,27 @@ use Rattle.c_syntax.specs.declared.spelled.Spelled.{Spelled}
 use Rattle.c_syntax.specs.Tokens.{word, word_at, mark, mark_at, name, commas, comma_if, spell_pieces}
 use Rattle.c_syntax.specs.Tree.{Expr}
 use Rattle.c_syntax.specs.Spelling.{spell, spell_specifiers, spell_declarator}
-use Rattle.c_syntax.specs.TreeUnit.{Initializer, Single, Braces, Item, Plain, ForMember, ForIndex, Items, NoItem, MoreItems, InitDeclarator, Declaration, Assert, ForInit, WithDeclaration, WithExpression, Statement, Block, ExprStmt, If, IfElse, Switch, While, Do, For, Break, Continue, Return, BlockItem, Declared, Asserted, Done, BlockItems, NoBlockItem, MoreBlockItems, SwitchItem, Case, Default, Within, SwitchItems, NoSwitchItem, MoreSwitchItems, Function, External, Defines, Declaring, Asserting, Tree}
+use Rattle.c_syntax.specs.TreeUnit as unit
+use Rattle.c_syntax.specs.TreeUnit.{Initializer, Item, Items, InitDeclarator, Declaration, Assert, ForInit, Statement}
+use Rattle.c_syntax.specs.TreeUnit.{BlockItem, BlockItems, SwitchItem, SwitchItems, Function, External, Tree}
 
 abbrev mutual
   -- 6.7.9
   pub spell_initializer : Initializer → List Spelled
-  spell_initializer (Single expr) = spell expr
-  spell_initializer (Braces pos items comma) =
+  spell_initializer (unit.Single expr) = spell expr
+  spell_initializer (unit.Braces pos items comma) =
       mark_at pos p.OpenBrace ∷ commas (spelled_items items) ++ comma_if comma ++ mark p.CloseBrace ∷ []
 
   pub spell_item : Item → List Spelled
-  spell_item (Plain initializer) = spell_initializer initializer
-  spell_item (ForMember pos x initializer) =
+  spell_item (unit.Plain initializer) = spell_initializer initializer
+  spell_item (unit.ForMember pos x initializer) =
       mark_at pos p.Dot ∷ name x ∷ mark p.Assign ∷ spell_initializer initializer
-  spell_item (ForIndex pos index initializer) =
+  spell_item (unit.ForIndex pos index initializer) =
       mark_at pos p.OpenBracket ∷ spell index ++ mark p.CloseBracket ∷ mark p.Assign ∷ spell_initializer initializer
 
   pub spelled_items : Items → List (List Spelled)
-  spelled_items NoItem = []
-  spelled_items (MoreItems first rest) = spell_item first ∷ spelled_items rest
+  spelled_items unit.NoItem = []
+  spelled_items (unit.MoreItems first rest) = spell_item first ∷ spelled_items rest
 
 -- 6.7
 abbrev pub spell_init : Option Initializer → List Spelled
@@ -54,8 +56,8 @@ spell_optional (Some expr) = spell expr
 
 -- 6.8.5.3; the declaration's own semicolon is the first of the two
 abbrev pub spell_for_init : ForInit → List Spelled
-spell_for_init (WithDeclaration declaration) = spell_declaration declaration
-spell_for_init (WithExpression expr) = spell_optional expr ++ mark p.Semicolon ∷ []
+spell_for_init (unit.WithDeclaration declaration) = spell_declaration declaration
+spell_for_init (unit.WithExpression expr) = spell_optional expr ++ mark p.Semicolon ∷ []
 
 -- the controlling expression of a statement (6.8.4, 6.8.5)
 abbrev pub spell_controlling : Expr → List Spelled
@@ -69,41 +71,41 @@ spell_for_head pos init test step =
 abbrev mutual
   -- 6.8
   pub spell_statement : Statement → List Spelled
-  spell_statement (Block items) = mark p.OpenBrace ∷ spell_block_items items ++ mark p.CloseBrace ∷ []
-  spell_statement (ExprStmt expr) = spell_optional expr ++ mark p.Semicolon ∷ []
-  spell_statement (If pos test then) = word_at pos w.If ∷ spell_controlling test ++ spell_statement then
-  spell_statement (IfElse pos test then else) =
+  spell_statement (unit.Block items) = mark p.OpenBrace ∷ spell_block_items items ++ mark p.CloseBrace ∷ []
+  spell_statement (unit.ExprStmt expr) = spell_optional expr ++ mark p.Semicolon ∷ []
+  spell_statement (unit.If pos test then) = word_at pos w.If ∷ spell_controlling test ++ spell_statement then
+  spell_statement (unit.IfElse pos test then else) =
       word_at pos w.If ∷ spell_controlling test ++ spell_statement then ++ word w.Else ∷ spell_statement else
-  spell_statement (Switch pos test items) =
+  spell_statement (unit.Switch pos test items) =
       word_at pos w.Switch ∷ spell_controlling test
       ++ mark p.OpenBrace ∷ spell_switch_items items ++ mark p.CloseBrace ∷ []
-  spell_statement (While pos test turn) = word_at pos w.While ∷ spell_controlling test ++ spell_statement turn
-  spell_statement (Do pos turn test) =
-      word_at pos w.Do ∷ spell_statement turn ++ word w.While ∷ spell_controlling test ++ mark p.Semicolon ∷ []
-  spell_statement (For pos init test step turn) = spell_for_head pos init test step ++ spell_statement turn
-  spell_statement (Break pos) = word_at pos w.Break ∷ mark p.Semicolon ∷ []
-  spell_statement (Continue pos) = word_at pos w.Continue ∷ mark p.Semicolon ∷ []
-  spell_statement (Return pos value) = word_at pos w.Return ∷ spell_optional value ++ mark p.Semicolon ∷ []
+  spell_statement (unit.While pos test body) = word_at pos w.While ∷ spell_controlling test ++ spell_statement body
+  spell_statement (unit.Do pos body test) =
+      word_at pos w.Do ∷ spell_statement body ++ word w.While ∷ spell_controlling test ++ mark p.Semicolon ∷ []
+  spell_statement (unit.For pos init test step body) = spell_for_head pos init test step ++ spell_statement body
+  spell_statement (unit.Break pos) = word_at pos w.Break ∷ mark p.Semicolon ∷ []
+  spell_statement (unit.Continue pos) = word_at pos w.Continue ∷ mark p.Semicolon ∷ []
+  spell_statement (unit.Return pos value) = word_at pos w.Return ∷ spell_optional value ++ mark p.Semicolon ∷ []
 
   -- 6.8.2
   pub spell_block_item : BlockItem → List Spelled
-  spell_block_item (Declared declaration) = spell_declaration declaration
-  spell_block_item (Asserted assert) = spell_assert assert
-  spell_block_item (Done statement) = spell_statement statement
+  spell_block_item (unit.Declared declaration) = spell_declaration declaration
+  spell_block_item (unit.Asserted assert) = spell_assert assert
+  spell_block_item (unit.Executes statement) = spell_statement statement
 
   pub spell_block_items : BlockItems → List Spelled
-  spell_block_items NoBlockItem = []
-  spell_block_items (MoreBlockItems first rest) = spell_block_item first ++ spell_block_items rest
+  spell_block_items unit.NoBlockItem = []
+  spell_block_items (unit.MoreBlockItems first rest) = spell_block_item first ++ spell_block_items rest
 
   -- 6.8.1
   pub spell_switch_item : SwitchItem → List Spelled
-  spell_switch_item (Case pos value) = word_at pos w.Case ∷ spell value ++ mark p.Colon ∷ []
-  spell_switch_item (Default pos) = word_at pos w.Default ∷ mark p.Colon ∷ []
-  spell_switch_item (Within item) = spell_block_item item
+  spell_switch_item (unit.Case pos value) = word_at pos w.Case ∷ spell value ++ mark p.Colon ∷ []
+  spell_switch_item (unit.Default pos) = word_at pos w.Default ∷ mark p.Colon ∷ []
+  spell_switch_item (unit.InBlock item) = spell_block_item item
 
   pub spell_switch_items : SwitchItems → List Spelled
-  spell_switch_items NoSwitchItem = []
-  spell_switch_items (MoreSwitchItems first rest) = spell_switch_item first ++ spell_switch_items rest
+  spell_switch_items unit.NoSwitchItem = []
+  spell_switch_items (unit.MoreSwitchItems first rest) = spell_switch_item first ++ spell_switch_items rest
 
 -- 6.9.1
 abbrev pub spell_function : Function → List Spelled
@@ -113,9 +115,9 @@ spell_function function =
 
 -- 6.9
 abbrev pub spell_external : External → List Spelled
-spell_external (Defines function) = spell_function function
-spell_external (Declaring declaration) = spell_declaration declaration
-spell_external (Asserting assert) = spell_assert assert
+spell_external (unit.Defines function) = spell_function function
+spell_external (unit.Declaring declaration) = spell_declaration declaration
+spell_external (unit.Asserting assert) = spell_assert assert
 
 -- the place behind the last byte stands behind these
 abbrev pub spell_tree : Tree → List Spelled

@@ -4,7 +4,7 @@ use Rattle.std.specs.List.{flat_map}
 use Rattle.critical_table.specs.declared.pos.Pos.{Pos}
 use Rattle.c_lexer.specs.declared.token.Token.{Token}
 use Rattle.c_lexer.specs.declared.token.Body.{Body}
-use Rattle.c_lexer.specs.declared.token.Body.TheVariants as body
+use Rattle.c_lexer.specs.declared.token.Body.TheVariants as lexeme
 use Rattle.c_lexer.specs.declared.word.Word.{Word}
 use Rattle.c_lexer.specs.declared.punct.Punct.{Punct}
 use Rattle.c_lexer.specs.declared.punct.Punct.TheVariants as p
@@ -15,26 +15,26 @@ use Rattle.c_syntax.specs.declared.spelled.Spelled.{Spelled}
 abbrev pub bare : Body → Spelled
 bare token = record { body = token; place = None }
 
-abbrev pub placed : Pos → Body → Spelled
-placed pos token = record { body = token; place = Some pos }
+abbrev pub token_at : Pos → Body → Spelled
+token_at pos token = record { body = token; place = Some pos }
 
 abbrev pub word : Word → Spelled
-word w = bare (body.Word w)
+word w = bare (lexeme.Word w)
 
 abbrev pub word_at : Pos → Word → Spelled
-word_at pos w = placed pos (body.Word w)
+word_at pos w = token_at pos (lexeme.Word w)
 
 abbrev pub mark : Punct → Spelled
-mark m = bare (body.Mark m)
+mark m = bare (lexeme.Mark m)
 
 abbrev pub mark_at : Pos → Punct → Spelled
-mark_at pos m = placed pos (body.Mark m)
+mark_at pos m = token_at pos (lexeme.Mark m)
 
 abbrev pub name : List ℕ → Spelled
-name x = bare (body.Name x)
+name x = bare (lexeme.Name x)
 
 abbrev pub name_at : Pos → List ℕ → Spelled
-name_at pos x = placed pos (body.Name x)
+name_at pos x = token_at pos (lexeme.Name x)
 
 -- ---- lists
 
@@ -57,7 +57,7 @@ ellipsis_if false = []
 abbrev pub spell_pieces : Option Pos → Bool → List (List ℤ) → List Spelled
 spell_pieces place wide [] = []
 spell_pieces place wide (units ∷ rest) =
-    record { body = body.Literal units wide; place = place } ∷ map (λ more. bare (body.Literal more wide)) rest
+    record { body = lexeme.Literal units wide; place = place } ∷ map (λ more. bare (lexeme.Literal more wide)) rest
 
 -- ---- tokens of a unit
 

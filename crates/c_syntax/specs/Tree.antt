@@ -29,11 +29,11 @@ mutual
     Index : (pos : Pos) (array index : Expr) → Expr
     Call : (pos : Pos) (function : Expr) (arguments : Exprs) → Expr
     Member : (pos : Pos) (access : Access) (whole : Expr) (name : List ℕ) → Expr
-    Postfix' : (pos : Pos) (operator : Postfix) (operand : Expr) → Expr
-    Prefix' : (pos : Pos) (operator : Prefix) (operand : Expr) → Expr
-    Measure' : (pos : Pos) (operator : Measure) (type : TypeName) → Expr
+    PostfixOp : (pos : Pos) (operator : Postfix) (operand : Expr) → Expr
+    PrefixOp : (pos : Pos) (operator : Prefix) (operand : Expr) → Expr
+    MeasureOp : (pos : Pos) (operator : Measure) (type : TypeName) → Expr
     Cast : (pos : Pos) (type : TypeName) (operand : Expr) → Expr
-    Infix' : (pos : Pos) (operator : Infix) (left right : Expr) → Expr
+    InfixOp : (pos : Pos) (operator : Infix) (left right : Expr) → Expr
     Cond : (pos : Pos) (test then else : Expr) → Expr
 
   pub data Exprs : Type 0 where
@@ -47,14 +47,14 @@ mutual
 
   -- 6.7.7
   pub data TypeName : Type 0 where
-    Type' : (specifiers : Specifiers) (declarator : Declarator) → TypeName
+    NamedType : (specifiers : Specifiers) (declarator : Declarator) → TypeName
 
   -- 6.7.1 to 6.7.4, with the place of the first token
   pub data Specifier : Type 0 where
-    Storage' : (pos : Pos) (word : Storage) → Specifier
-    Qualifier' : (pos : Pos) (word : Qualifier) → Specifier
+    StorageClass : (pos : Pos) (word : Storage) → Specifier
+    TypeQualifier : (pos : Pos) (word : Qualifier) → Specifier
     Inline : (pos : Pos) → Specifier
-    BasicWord' : (pos : Pos) (word : BasicWord) → Specifier
+    BasicType : (pos : Pos) (word : BasicWord) → Specifier
     CompoundTag : (pos : Pos) (word : CompoundWord) (tag : Tag) → Specifier
     Compound : (pos : Pos) (word : CompoundWord) (tag : Option Tag) (members : Members) → Specifier
     EnumTag : (pos : Pos) (tag : Tag) → Specifier

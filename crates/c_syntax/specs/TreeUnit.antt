@@ -48,9 +48,9 @@ mutual
     If : (pos : Pos) (test : Expr) (then : Statement) → Statement
     IfElse : (pos : Pos) (test : Expr) (then else : Statement) → Statement
     Switch : (pos : Pos) (test : Expr) (items : SwitchItems) → Statement
-    While : (pos : Pos) (test : Expr) (turn : Statement) → Statement
-    Do : (pos : Pos) (turn : Statement) (test : Expr) → Statement
-    For : (pos : Pos) (init : ForInit) (test step : Option Expr) (turn : Statement) → Statement
+    While : (pos : Pos) (test : Expr) (body : Statement) → Statement
+    Do : (pos : Pos) (body : Statement) (test : Expr) → Statement
+    For : (pos : Pos) (init : ForInit) (test step : Option Expr) (body : Statement) → Statement
     Break : (pos : Pos) → Statement
     Continue : (pos : Pos) → Statement
     Return : (pos : Pos) (value : Option Expr) → Statement
@@ -59,7 +59,7 @@ mutual
   pub data BlockItem : Type 0 where
     Declared : (declaration : Declaration) → BlockItem
     Asserted : (assert : Assert) → BlockItem
-    Done : (statement : Statement) → BlockItem
+    Executes : (statement : Statement) → BlockItem
 
   pub data BlockItems : Type 0 where
     NoBlockItem : BlockItems
@@ -69,7 +69,7 @@ mutual
   pub data SwitchItem : Type 0 where
     Case : (pos : Pos) (value : Expr) → SwitchItem
     Default : (pos : Pos) → SwitchItem
-    Within : (item : BlockItem) → SwitchItem
+    InBlock : (item : BlockItem) → SwitchItem
 
   pub data SwitchItems : Type 0 where
     NoSwitchItem : SwitchItems

@@ -4,30 +4,34 @@ use Rattle.std.specs.Option.{IsSome}
 use Rattle.c_syntax.specs.Levels.{expression, assignment, conditional}
 use Rattle.c_syntax.specs.Tree.{Expr}
 use Rattle.c_syntax.specs.HeightUnit.{tree_height, greatest_height}
-use Rattle.c_syntax.specs.Scopes.{Scope, predeclared, names_types, own_name, declared_if, expr_adds, specifiers_add, declarator_adds}
-use Rattle.c_syntax.specs.ScopesUnit.{item_adds, init_adds, optional_adds, for_init_adds, block_item_adds, switch_item_adds, own_parameters, body_scope, external_adds}
+use Rattle.c_syntax.specs.Scopes.{Scope, predeclared, names_types, own_name, declared_if, expr_adds, specifiers_add}
+use Rattle.c_syntax.specs.Scopes.{declarator_adds}
+use Rattle.c_syntax.specs.ScopesUnit.{item_adds, init_adds, optional_adds, for_init_adds, block_item_adds}
+use Rattle.c_syntax.specs.ScopesUnit.{switch_item_adds, own_parameters, body_scope, external_adds}
 use Rattle.c_syntax.specs.WellFormed.{AreAdjacent, SpecifyOneType, DeclaresName, IsExpr, AreSpecifiers, IsDeclarator}
-use Rattle.c_syntax.specs.TreeUnit.{Initializer, Single, Braces, Item, Plain, ForMember, ForIndex, Items, NoItem, MoreItems, InitDeclarator, Declaration, Assert, ForInit, WithDeclaration, WithExpression, Statement, Block, ExprStmt, If, IfElse, Switch, While, Do, For, Break, Continue, Return, BlockItem, Declared, Asserted, Done, BlockItems, NoBlockItem, MoreBlockItems, SwitchItem, Case, Default, Within, SwitchItems, NoSwitchItem, MoreSwitchItems, Function, External, Defines, Declaring, Asserting, Tree}
+use Rattle.c_syntax.specs.TreeUnit as unit
+use Rattle.c_syntax.specs.TreeUnit.{Initializer, Item, Items, InitDeclarator, Declaration, Assert, ForInit, Statement}
+use Rattle.c_syntax.specs.TreeUnit.{BlockItem, BlockItems, SwitchItem, SwitchItems, Function, External, Tree}
 
 abbrev pub HasItem : Items → Type 0
-HasItem NoItem = ⊥
+HasItem unit.NoItem = ⊥
 HasItem _ = Unit {0}
 
 abbrev mutual
   -- int a[] = {1, 2} has two items, int a[] = {(1, 2)} one (6.7.9)
   pub IsInitializer : Initializer → Scope → Type 0
-  IsInitializer (Single expr) scope = IsExpr expr scope assignment
-  IsInitializer (Braces pos items comma) scope = HasItem items × AreItems items scope
+  IsInitializer (unit.Single expr) scope = IsExpr expr scope assignment
+  IsInitializer (unit.Braces pos items comma) scope = HasItem items × AreItems items scope
 
   pub IsItem : Item → Scope → Type 0
-  IsItem (Plain initializer) scope = IsInitializer initializer scope
-  IsItem (ForMember pos x initializer) scope = IsInitializer initializer scope
-  IsItem (ForIndex pos index initializer) scope =
+  IsItem (unit.Plain initializer) scope = IsInitializer initializer scope
+  IsItem (unit.ForMember pos x initializer) scope = IsInitializer initializer scope
+  IsItem (unit.ForIndex pos index initializer) scope =
       IsExpr index scope conditional × IsInitializer initializer (scope ++ expr_adds index)
 
   pub AreItems : Items → Scope → Type 0
-  AreItems NoItem scope = Unit {0}
-  AreItems (MoreItems first rest) scope = IsItem first scope × AreItems rest (scope ++ item_adds first)
+  AreItems unit.NoItem scope = Unit {0}
+  AreItems (unit.MoreItems first rest) scope = IsItem first scope × AreItems rest (scope ++ item_adds first)
 
 abbrev pub IsInit : Option Initializer → Scope → Type 0
 IsInit None scope = Unit {0}
@@ -60,65 +64,66 @@ IsOptional None scope = Unit {0}
 IsOptional (Some expr) scope = IsExpr expr scope expression
 
 abbrev pub IsForInit : ForInit → Scope → Type 0
-IsForInit (WithDeclaration declaration) scope = IsDeclaration declaration scope
-IsForInit (WithExpression expr) scope = IsOptional expr scope
+IsForInit (unit.WithDeclaration declaration) scope = IsDeclaration declaration scope
+IsForInit (unit.WithExpression expr) scope = IsOptional expr scope
 
 -- no else that follows would belong to an if in the statement (6.8.4.1p3)
 abbrev pub IsClosed : Statement → Type 0
-IsClosed (If pos test then) = ⊥
-IsClosed (IfElse pos test then else) = IsClosed else
-IsClosed (While pos test turn) = IsClosed turn
-IsClosed (For pos init test step turn) = IsClosed turn
+IsClosed (unit.If pos test then) = ⊥
+IsClosed (unit.IfElse pos test then else) = IsClosed else
+IsClosed (unit.While pos test body) = IsClosed body
+IsClosed (unit.For pos init test step body) = IsClosed body
 IsClosed _ = Unit {0}
 
 abbrev mutual
   pub IsStatement : Statement → Scope → Type 0
-  IsStatement (Block items) scope = AreBlockItems items scope
-  IsStatement (ExprStmt expr) scope = IsOptional expr scope
-  IsStatement (If pos test then) scope = IsExpr test scope expression × IsStatement then (scope ++ expr_adds test)
+  IsStatement (unit.Block items) scope = AreBlockItems items scope
+  IsStatement (unit.ExprStmt expr) scope = IsOptional expr scope
+  IsStatement (unit.If pos test then) scope = IsExpr test scope expression × IsStatement then (scope ++ expr_adds test)
   -- if (a) if (b) c; else d; has the else in the inner if, and if (a) {if (b) c;} else d; in the outer
-  IsStatement (IfElse pos test then else) scope =
+  IsStatement (unit.IfElse pos test then else) scope =
       IsExpr test scope expression
       × IsStatement then (scope ++ expr_adds test)
       × IsClosed then
       × IsStatement else (scope ++ expr_adds test)
   -- labels stand directly in the block of a switch: switch (a) {case 1: b;}, but not switch (a) {{case 1: b;}}
-  IsStatement (Switch pos test items) scope =
+  IsStatement (unit.Switch pos test items) scope =
       IsExpr test scope expression × AreSwitchItems items (scope ++ expr_adds test)
-  IsStatement (While pos test turn) scope = IsExpr test scope expression × IsStatement turn (scope ++ expr_adds test)
+  IsStatement (unit.While pos test body) scope = IsExpr test scope expression
+      × IsStatement body (scope ++ expr_adds test)
   -- the body is a block of its own: do {int T;} while (sizeof(T)); where T is a type
-  IsStatement (Do pos turn test) scope = IsStatement turn scope × IsExpr test scope expression
+  IsStatement (unit.Do pos body test) scope = IsStatement body scope × IsExpr test scope expression
   -- for (int T = 0; T; T++) T = 0; has expressions where T was a type before, and is one again behind
-  IsStatement (For pos init test step turn) scope =
+  IsStatement (unit.For pos init test step body) scope =
       let tested = scope ++ for_init_adds init in
       let stepped = tested ++ optional_adds test in
       IsForInit init scope
       × IsOptional test tested
       × IsOptional step stepped
-      × IsStatement turn (stepped ++ optional_adds step)
-  IsStatement (Break pos) scope = Unit {0}
-  IsStatement (Continue pos) scope = Unit {0}
-  IsStatement (Return pos value) scope = IsOptional value scope
+      × IsStatement body (stepped ++ optional_adds step)
+  IsStatement (unit.Break pos) scope = Unit {0}
+  IsStatement (unit.Continue pos) scope = Unit {0}
+  IsStatement (unit.Return pos value) scope = IsOptional value scope
 
   pub IsBlockItem : BlockItem → Scope → Type 0
-  IsBlockItem (Declared declaration) scope = IsDeclaration declaration scope
-  IsBlockItem (Asserted assert) scope = IsAssert assert scope
-  IsBlockItem (Done statement) scope = IsStatement statement scope
+  IsBlockItem (unit.Declared declaration) scope = IsDeclaration declaration scope
+  IsBlockItem (unit.Asserted assert) scope = IsAssert assert scope
+  IsBlockItem (unit.Executes statement) scope = IsStatement statement scope
 
   pub AreBlockItems : BlockItems → Scope → Type 0
-  AreBlockItems NoBlockItem scope = Unit {0}
-  AreBlockItems (MoreBlockItems first rest) scope =
+  AreBlockItems unit.NoBlockItem scope = Unit {0}
+  AreBlockItems (unit.MoreBlockItems first rest) scope =
       IsBlockItem first scope × AreBlockItems rest (scope ++ block_item_adds first)
 
   -- case 1 = 2: is refused (6.8.1)
   pub IsSwitchItem : SwitchItem → Scope → Type 0
-  IsSwitchItem (Case pos value) scope = IsExpr value scope conditional
-  IsSwitchItem (Default pos) scope = Unit {0}
-  IsSwitchItem (Within item) scope = IsBlockItem item scope
+  IsSwitchItem (unit.Case pos value) scope = IsExpr value scope conditional
+  IsSwitchItem (unit.Default pos) scope = Unit {0}
+  IsSwitchItem (unit.InBlock item) scope = IsBlockItem item scope
 
   pub AreSwitchItems : SwitchItems → Scope → Type 0
-  AreSwitchItems NoSwitchItem scope = Unit {0}
-  AreSwitchItems (MoreSwitchItems first rest) scope =
+  AreSwitchItems unit.NoSwitchItem scope = Unit {0}
+  AreSwitchItems (unit.MoreSwitchItems first rest) scope =
       IsSwitchItem first scope × AreSwitchItems rest (scope ++ switch_item_adds first)
 
 -- int (f)(void) {} is a function definition, int (*f)(void) {} and F f {} for a function type F are none (6.9.1p2)
@@ -132,9 +137,9 @@ IsFunction function scope =
     × AreBlockItems function.body (body_scope scope function)
 
 abbrev pub IsExternal : External → Scope → Type 0
-IsExternal (Defines function) scope = IsFunction function scope
-IsExternal (Declaring declaration) scope = IsDeclaration declaration scope
-IsExternal (Asserting assert) scope = IsAssert assert scope
+IsExternal (unit.Defines function) scope = IsFunction function scope
+IsExternal (unit.Declaring declaration) scope = IsDeclaration declaration scope
+IsExternal (unit.Asserting assert) scope = IsAssert assert scope
 
 abbrev pub AreExternals : List External → Scope → Type 0
 AreExternals [] scope = Unit {0}

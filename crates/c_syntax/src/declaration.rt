@@ -1,3 +1,5 @@
+//! Declarations and static assertions (6.7, 6.7.10).
+
 use crate::declarator::Declarator;
 use crate::expression::{Expr, Literals};
 use crate::initializer::Initializer;

@@ -1,3 +1,5 @@
+//! Expressions, constants and string literals (6.4.4, 6.4.5, 6.5).
+
 use crate::operator::{Access, Infix, Measure, Postfix, Prefix};
 use crate::type_name::TypeName;
 use c_lexer::{Number, Units};

@@ -1,3 +1,5 @@
+//! Initializers (6.7.9).
+
 use crate::expression::Expr;
 use critical_table::{Name, Pos};
 

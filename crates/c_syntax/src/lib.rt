@@ -1,12 +1,10 @@
-//! The syntax of a unit of C (6.5 to 6.9): its tree, the tokens that spell a tree, which trees are well-formed, and the one
-//! tree or the one refused place of each list of tokens. The readers of specs/ tell what a list of tokens begins with.
+//! The syntax of a unit of C (6.5 to 6.9): its tree, the tokens that spell a tree, which trees are well-formed, the one
+//! tree or the one refused place of each list of tokens, and a printer of trees.
 #![tactic(auto)]
 
-pub mod come;
 pub mod declaration;
 pub mod declarator;
 pub mod expression;
-pub mod form;
 pub mod initializer;
 pub mod law;
 pub mod operator;
@@ -20,15 +18,11 @@ pub mod type_name;
 pub mod unit;
 mod words;
 
-pub use come::Come;
 pub use declaration::{Assert, Declaration, InitDeclarator};
 pub use declarator::{Declarator, Parameter};
 pub use expression::{Constant, Expr, Literals};
-pub use form::Form;
 pub use initializer::{Initializer, Item};
-pub use law::{
-    answer_law, first_token_law, height_law, one_tree_law, round_trip_law, spelling_law,
-};
+pub use law::{first_token_law, height_law, round_trip_law, spelling_law};
 pub use operator::{Access, Arithmetic, Comparison, Infix, Measure, Postfix, Prefix};
 pub use specifier::{
     BasicWord, CompoundWord, Enumerator, MemberDeclaration, Qualifier, Specifier, Storage, Tag,

@@ -1,3 +1,5 @@
+//! The printer's tokens, one at a time.
+
 ghost use Rattle.std.specs.Prelude.{◌≡◌, ◌++◌, ◌∷◌, [], IfOk};
 ghost use Rattle.c_syntax.specs.Operators as operators;
 ghost use Rattle.c_syntax.specs.Spelling as spelling;
@@ -26,8 +28,8 @@ pub(crate) fn bare(out: &mut Output, token: Body) -> Result<(), AllocError>
     Ok(())
 }
 
-pub(crate) fn placed(out: &mut Output, pos: Pos, token: Body) -> Result<(), AllocError>
-    ensures { IfOk result (λ _. out.new.items ≡ out.old.items ++ spec.placed pos token ∷ []) }
+pub(crate) fn token_at(out: &mut Output, pos: Pos, token: Body) -> Result<(), AllocError>
+    ensures { IfOk result (λ _. out.new.items ≡ out.old.items ++ spec.token_at pos token ∷ []) }
 {
     out.push(Spelled {
         body: token,
@@ -45,7 +47,7 @@ pub(crate) fn word(out: &mut Output, word: Word) -> Result<(), AllocError>
 pub(crate) fn word_at(out: &mut Output, pos: Pos, word: Word) -> Result<(), AllocError>
     ensures { IfOk result (λ _. out.new.items ≡ out.old.items ++ spec.word_at pos word ∷ []) }
 {
-    placed(out, pos, Body::Word(word))
+    token_at(out, pos, Body::Word(word))
 }
 
 pub(crate) fn mark(out: &mut Output, mark: Punct) -> Result<(), AllocError>
@@ -57,7 +59,7 @@ pub(crate) fn mark(out: &mut Output, mark: Punct) -> Result<(), AllocError>
 pub(crate) fn mark_at(out: &mut Output, pos: Pos, mark: Punct) -> Result<(), AllocError>
     ensures { IfOk result (λ _. out.new.items ≡ out.old.items ++ spec.mark_at pos mark ∷ []) }
 {
-    placed(out, pos, Body::Mark(mark))
+    token_at(out, pos, Body::Mark(mark))
 }
 
 pub(crate) fn name(alloc: Global, out: &mut Output, name: &Name) -> Result<(), AllocError>
@@ -76,7 +78,7 @@ pub(crate) fn name_at(
     ensures { IfOk result (λ _. out.new.items ≡ out.old.items ++ spec.name_at pos name.now ∷ []) }
 {
     let name = Name::new(alloc, name.bytes())?;
-    placed(out, pos, Body::Name(name))
+    token_at(out, pos, Body::Name(name))
 }
 
 pub(crate) fn tag(alloc: Global, out: &mut Output, tag: &Option<Tag>) -> Result<(), AllocError>
@@ -89,11 +91,12 @@ pub(crate) fn tag(alloc: Global, out: &mut Output, tag: &Option<Tag>) -> Result<
 }
 
 pub(crate) fn constant(out: &mut Output, pos: Pos, constant: Constant) -> Result<(), AllocError>
-    ensures { IfOk result (λ _. out.new.items ≡ out.old.items ++ spec.placed pos (operators.constant_token constant) ∷ []) }
+    ensures { IfOk result (λ _. out.new.items
+        ≡ out.old.items ++ spec.token_at pos (operators.constant_token constant) ∷ []) }
 {
     match constant {
-        Constant::Number(number) => placed(out, pos, Body::Number(number)),
-        Constant::Character(value, wide) => placed(out, pos, Body::Character(value, wide)),
+        Constant::Number(number) => token_at(out, pos, Body::Number(number)),
+        Constant::Character(value, wide) => token_at(out, pos, Body::Character(value, wide)),
     }
 }
 
@@ -102,7 +105,8 @@ pub(crate) fn prefix_operator(
     pos: Pos,
     operator: Prefix,
 ) -> Result<(), AllocError>
-    ensures { IfOk result (λ _. out.new.items ≡ out.old.items ++ spec.placed pos (operators.prefix_token operator) ∷ []) }
+    ensures { IfOk result (λ _. out.new.items
+        ≡ out.old.items ++ spec.token_at pos (operators.prefix_token operator) ∷ []) }
 {
     match operator {
         Prefix::PreInc => mark_at(out, pos, Punct::Increment),
@@ -152,7 +156,11 @@ fn piece(
     units: &Units,
     wide: bool,
 ) -> Result<(), AllocError>
-    ensures { IfOk result (λ _. out.new.items ≡ out.old.items ++ record { body = Body.Literal units.now wide; place = place } ∷ []) }
+    ensures { IfOk result (λ _. out.new.items ≡ out.old.items ++ record {
+      body = Body.Literal units.now wide;
+      place
+          = place;
+    } ∷ []) }
 {
     let units = Units::from_slice(alloc, units.as_slice())?;
     out.push(Spelled {
@@ -169,7 +177,8 @@ pub(crate) fn literals(
     place: Option<Pos>,
     text: &Literals,
 ) -> Result<(), AllocError>
-    ensures { IfOk result (λ _. out.new.items ≡ out.old.items ++ spec.spell_pieces place (literals_of text.now).wide (literals_of text.now).pieces) }
+    ensures { IfOk result (λ _. out.new.items
+        ≡ out.old.items ++ spec.spell_pieces place (literals_of text.now).wide (literals_of text.now).pieces) }
 {
     let [first, rest @ ..] = text.units.as_slice() else {
         return Ok(());

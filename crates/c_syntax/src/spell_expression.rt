@@ -1,3 +1,5 @@
+//! The printer of expressions, type names, specifiers and declarators.
+
 ghost use Rattle.std.specs.Prelude.{◌≡◌, ◌++◌, ◌∷◌, [], map, IfOk};
 ghost use Rattle.std.specs.List.{flat_map};
 ghost use Rattle.c_syntax.specs.Spelling as spec;
@@ -31,7 +33,7 @@ pub(crate) fn expression(alloc: Global, out: &mut Output, expr: &Expr) -> Result
         Expr::Const(pos, value) => constant(out, *pos, *value),
         Expr::Id(pos, id) => name_at(alloc, out, *pos, id),
         Expr::Text(pos, text) => literals(alloc, out, Some(*pos), text),
-        Expr::Paren(inner) => parenthesized(alloc, out, inner),
+        Expr::Paren(inner) => paren(alloc, out, inner),
         Expr::Index(pos, array, index) => {
             expression(alloc, out, array)?;
             subscript(alloc, out, *pos, index)
@@ -65,8 +67,10 @@ pub(crate) fn expression(alloc: Global, out: &mut Output, expr: &Expr) -> Result
 
 /// `( expression )`
 #[cycle(spelling)]
-pub(crate) fn parenthesized(alloc: Global, out: &mut Output, inner: &Expr) -> Result<(), AllocError>
-    ensures { IfOk result (λ _. out.new.items ≡ out.old.items ++ (tokens.mark Punct.OpenParen ∷ spec.spell (view.expr_of inner.now) ++ tokens.mark Punct.CloseParen ∷ [])) }
+pub(crate) fn paren(alloc: Global, out: &mut Output, inner: &Expr) -> Result<(), AllocError>
+    ensures { IfOk result (λ _. out.new.items
+        ≡ out.old.items ++ (tokens.mark Punct.OpenParen ∷ spec.spell (view.expr_of inner.now)
+        ++ tokens.mark Punct.CloseParen ∷ [])) }
 {
     mark(out, Punct::OpenParen)?;
     expression(alloc, out, inner)?;
@@ -76,7 +80,9 @@ pub(crate) fn parenthesized(alloc: Global, out: &mut Output, inner: &Expr) -> Re
 /// `[ index ]`
 #[cycle(spelling)]
 fn subscript(alloc: Global, out: &mut Output, pos: Pos, index: &Expr) -> Result<(), AllocError>
-    ensures { IfOk result (λ _. out.new.items ≡ out.old.items ++ (tokens.mark_at pos Punct.OpenBracket ∷ spec.spell (view.expr_of index.now) ++ tokens.mark Punct.CloseBracket ∷ [])) }
+    ensures { IfOk result (λ _. out.new.items
+        ≡ out.old.items ++ (tokens.mark_at pos Punct.OpenBracket ∷ spec.spell (view.expr_of index.now)
+        ++ tokens.mark Punct.CloseBracket ∷ [])) }
 {
     mark_at(out, pos, Punct::OpenBracket)?;
     expression(alloc, out, index)?;
@@ -92,7 +98,8 @@ fn member_of(
     whole: &Expr,
     id: &Name,
 ) -> Result<(), AllocError>
-    ensures { IfOk result (λ _. out.new.items ≡ out.old.items ++ spec.spell (tree.Member pos access (view.expr_of whole.now) id.now)) }
+    ensures { IfOk result (λ _. out.new.items
+        ≡ out.old.items ++ spec.spell (tree.Member pos access (view.expr_of whole.now) id.now)) }
 {
     expression(alloc, out, whole)?;
     mark_at(out, pos, access_token(access))?;
@@ -107,7 +114,8 @@ fn postfix(
     operator: Postfix,
     operand: &Expr,
 ) -> Result<(), AllocError>
-    ensures { IfOk result (λ _. out.new.items ≡ out.old.items ++ spec.spell (tree.Postfix' pos operator (view.expr_of operand.now))) }
+    ensures { IfOk result (λ _. out.new.items
+        ≡ out.old.items ++ spec.spell (tree.PostfixOp pos operator (view.expr_of operand.now))) }
 {
     expression(alloc, out, operand)?;
     mark_at(out, pos, postfix_token(operator))
@@ -121,7 +129,8 @@ fn prefix(
     operator: Prefix,
     operand: &Expr,
 ) -> Result<(), AllocError>
-    ensures { IfOk result (λ _. out.new.items ≡ out.old.items ++ spec.spell (tree.Prefix' pos operator (view.expr_of operand.now))) }
+    ensures { IfOk result (λ _. out.new.items
+        ≡ out.old.items ++ spec.spell (tree.PrefixOp pos operator (view.expr_of operand.now))) }
 {
     prefix_operator(out, pos, operator)?;
     expression(alloc, out, operand)
@@ -135,7 +144,8 @@ fn measure(
     operator: Measure,
     of: &TypeName,
 ) -> Result<(), AllocError>
-    ensures { IfOk result (λ _. out.new.items ≡ out.old.items ++ spec.spell (tree.Measure' pos operator (view.type_name_of of.now))) }
+    ensures { IfOk result (λ _. out.new.items
+        ≡ out.old.items ++ spec.spell (tree.MeasureOp pos operator (view.type_name_of of.now))) }
 {
     word_at(out, pos, measure_word(operator))?;
     mark(out, Punct::OpenParen)?;
@@ -146,7 +156,9 @@ fn measure(
 /// `( type-name )` before an operand.
 #[cycle(spelling)]
 fn cast_to(alloc: Global, out: &mut Output, pos: Pos, to: &TypeName) -> Result<(), AllocError>
-    ensures { IfOk result (λ _. out.new.items ≡ out.old.items ++ (tokens.mark_at pos Punct.OpenParen ∷ spec.spell_type_name (view.type_name_of to.now) ++ tokens.mark Punct.CloseParen ∷ [])) }
+    ensures { IfOk result (λ _. out.new.items
+        ≡ out.old.items ++ (tokens.mark_at pos Punct.OpenParen ∷ spec.spell_type_name (view.type_name_of to.now)
+        ++ tokens.mark Punct.CloseParen ∷ [])) }
 {
     mark_at(out, pos, Punct::OpenParen)?;
     type_name(alloc, out, to)?;
@@ -162,7 +174,8 @@ fn operand(
     operator: Punct,
     expr: &Expr,
 ) -> Result<(), AllocError>
-    ensures { IfOk result (λ _. out.new.items ≡ out.old.items ++ tokens.mark_at pos operator ∷ spec.spell (view.expr_of expr.now)) }
+    ensures { IfOk result (λ _. out.new.items
+        ≡ out.old.items ++ tokens.mark_at pos operator ∷ spec.spell (view.expr_of expr.now)) }
 {
     mark_at(out, pos, operator)?;
     expression(alloc, out, expr)
@@ -170,7 +183,8 @@ fn operand(
 
 #[cycle(spelling)]
 fn arguments(alloc: Global, out: &mut Output, list: &[Expr]) -> Result<(), AllocError>
-    ensures { IfOk result (λ _. out.new.items ≡ out.old.items ++ commas (map (λ e. spec.spell (view.expr_of e)) list.now)) }
+    ensures { IfOk result (λ _. out.new.items
+        ≡ out.old.items ++ commas (map (λ e. spec.spell (view.expr_of e)) list.now)) }
 {
     let [first, rest @ ..] = list else {
         return Ok(());
@@ -197,7 +211,8 @@ pub(crate) fn specifiers(
     out: &mut Output,
     list: &[Specifier],
 ) -> Result<(), AllocError>
-    ensures { IfOk result (λ _. out.new.items ≡ out.old.items ++ flat_map (λ s. spec.spell_specifier (view.specifier_of s)) list.now) }
+    ensures { IfOk result (λ _. out.new.items
+        ≡ out.old.items ++ flat_map (λ s. spec.spell_specifier (view.specifier_of s)) list.now) }
 {
     for each in list {
         specifier(alloc, out, each)?;
@@ -243,7 +258,8 @@ fn specifier(alloc: Global, out: &mut Output, each: &Specifier) -> Result<(), Al
 
 #[cycle(spelling)]
 fn members(alloc: Global, out: &mut Output, list: &[MemberDeclaration]) -> Result<(), AllocError>
-    ensures { IfOk result (λ _. out.new.items ≡ out.old.items ++ flat_map (λ m. spec.spell_member (view.member_of m)) list.now) }
+    ensures { IfOk result (λ _. out.new.items
+        ≡ out.old.items ++ flat_map (λ m. spec.spell_member (view.member_of m)) list.now) }
 {
     for each in list {
         member(alloc, out, each)?;
@@ -262,7 +278,8 @@ fn member(alloc: Global, out: &mut Output, each: &MemberDeclaration) -> Result<(
 
 #[cycle(spelling)]
 fn declarators(alloc: Global, out: &mut Output, list: &[Declarator]) -> Result<(), AllocError>
-    ensures { IfOk result (λ _. out.new.items ≡ out.old.items ++ commas (map (λ d. spec.spell_declarator (view.declarator_of d)) list.now)) }
+    ensures { IfOk result (λ _. out.new.items
+        ≡ out.old.items ++ commas (map (λ d. spec.spell_declarator (view.declarator_of d)) list.now)) }
 {
     let [first, rest @ ..] = list else {
         return Ok(());
@@ -277,7 +294,8 @@ fn declarators(alloc: Global, out: &mut Output, list: &[Declarator]) -> Result<(
 
 #[cycle(spelling)]
 fn enumerators(alloc: Global, out: &mut Output, list: &[Enumerator]) -> Result<(), AllocError>
-    ensures { IfOk result (λ _. out.new.items ≡ out.old.items ++ commas (map (λ n. spec.spell_enumerator (view.enumerator_of n)) list.now)) }
+    ensures { IfOk result (λ _. out.new.items
+        ≡ out.old.items ++ commas (map (λ n. spec.spell_enumerator (view.enumerator_of n)) list.now)) }
 {
     let [first, rest @ ..] = list else {
         return Ok(());
@@ -341,7 +359,8 @@ pub(crate) fn declarator(alloc: Global, out: &mut Output, of: &Declarator) -> Re
 
 #[cycle(spelling)]
 fn parameters(alloc: Global, out: &mut Output, list: &[Parameter]) -> Result<(), AllocError>
-    ensures { IfOk result (λ _. out.new.items ≡ out.old.items ++ commas (map (λ p. spec.spell_parameter (view.parameter_of p)) list.now)) }
+    ensures { IfOk result (λ _. out.new.items
+        ≡ out.old.items ++ commas (map (λ p. spec.spell_parameter (view.parameter_of p)) list.now)) }
 {
     let [first, rest @ ..] = list else {
         return Ok(());

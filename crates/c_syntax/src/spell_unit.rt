@@ -1,3 +1,5 @@
+//! The printer of initializers, declarations, statements and the unit.
+
 ghost use Rattle.std.specs.Prelude.{◌≡◌, ◌++◌, ◌∷◌, [], map, IfOk};
 ghost use Rattle.std.specs.List.{flat_map};
 ghost use Rattle.std.specs.Option.{option_map};
@@ -11,7 +13,7 @@ use crate::declaration::{Assert, Declaration, InitDeclarator};
 use crate::expression::Expr;
 use crate::initializer::{Initializer, Item};
 use crate::output::{Output, comma_if, literals, mark, mark_at, name, word, word_at};
-use crate::spell_expression::{declarator, expression, parenthesized, specifiers};
+use crate::spell_expression::{declarator, expression, paren, specifiers};
 use crate::spelled::Spelled;
 use crate::statement::{BlockItem, ForInit, Statement, SwitchItem};
 use crate::unit::{External, Function, Tree};
@@ -36,7 +38,8 @@ fn initializer(alloc: Global, out: &mut Output, of: &Initializer) -> Result<(), 
 
 #[cycle(initializers)]
 fn items(alloc: Global, out: &mut Output, list: &[Item]) -> Result<(), AllocError>
-    ensures { IfOk result (λ _. out.new.items ≡ out.old.items ++ commas (map (λ i. spec.spell_item (view.item_of i)) list.now)) }
+    ensures { IfOk result (λ _. out.new.items
+        ≡ out.old.items ++ commas (map (λ i. spec.spell_item (view.item_of i)) list.now)) }
 {
     let [first, rest @ ..] = list else {
         return Ok(());
@@ -72,7 +75,8 @@ fn item(alloc: Global, out: &mut Output, each: &Item) -> Result<(), AllocError>
 }
 
 fn init_declarator(alloc: Global, out: &mut Output, one: &InitDeclarator) -> Result<(), AllocError>
-    ensures { IfOk result (λ _. out.new.items ≡ out.old.items ++ spec.spell_init_declarator (view.init_declarator_of one.now)) }
+    ensures { IfOk result (λ _. out.new.items
+        ≡ out.old.items ++ spec.spell_init_declarator (view.init_declarator_of one.now)) }
 {
     declarator(alloc, out, &one.declarator)?;
     match &one.initializer {
@@ -89,7 +93,8 @@ fn init_declarators(
     out: &mut Output,
     list: &[InitDeclarator],
 ) -> Result<(), AllocError>
-    ensures { IfOk result (λ _. out.new.items ≡ out.old.items ++ commas (map (λ d. spec.spell_init_declarator (view.init_declarator_of d)) list.now)) }
+    ensures { IfOk result (λ _. out.new.items
+        ≡ out.old.items ++ commas (map (λ d. spec.spell_init_declarator (view.init_declarator_of d)) list.now)) }
 {
     let [first, rest @ ..] = list else {
         return Ok(());
@@ -136,13 +141,18 @@ fn for_init(alloc: Global, out: &mut Output, init: &ForInit) -> Result<(), Alloc
 {
     match init {
         ForInit::Declaration(of) => declaration(alloc, out, of),
-        ForInit::Expression(expr) => evaluated(alloc, out, expr),
+        ForInit::Expression(expr) => optional_statement(alloc, out, expr),
     }
 }
 
 /// `expression ;`
-fn evaluated(alloc: Global, out: &mut Output, expr: &Option<Expr>) -> Result<(), AllocError>
-    ensures { IfOk result (λ _. out.new.items ≡ out.old.items ++ (spec.spell_optional (option_map expr_of expr.now) ++ tokens.mark Punct.Semicolon ∷ [])) }
+fn optional_statement(
+    alloc: Global,
+    out: &mut Output,
+    expr: &Option<Expr>,
+) -> Result<(), AllocError>
+    ensures { IfOk result (λ _. out.new.items
+        ≡ out.old.items ++ (spec.spell_optional (option_map expr_of expr.now) ++ tokens.mark Punct.Semicolon ∷ [])) }
 {
     optional(alloc, out, expr)?;
     mark(out, Punct::Semicolon)
@@ -156,10 +166,11 @@ fn head(
     first: Word,
     test: &Expr,
 ) -> Result<(), AllocError>
-    ensures { IfOk result (λ _. out.new.items ≡ out.old.items ++ tokens.word_at pos first ∷ spec.spell_controlling (expr_of test.now)) }
+    ensures { IfOk result (λ _. out.new.items
+        ≡ out.old.items ++ tokens.word_at pos first ∷ spec.spell_controlling (expr_of test.now)) }
 {
     word_at(out, pos, first)?;
-    parenthesized(alloc, out, test)
+    paren(alloc, out, test)
 }
 
 /// `for` and what stands in its parentheses.
@@ -171,28 +182,33 @@ fn for_head(
     test: &Option<Expr>,
     step: &Option<Expr>,
 ) -> Result<(), AllocError>
-    ensures { IfOk result (λ _. out.new.items ≡ out.old.items ++ spec.spell_for_head pos (view.for_init_of init.now) (option_map expr_of test.now) (option_map expr_of step.now)) }
+    ensures { IfOk result (λ _. out.new.items
+        ≡ out.old.items ++ spec.spell_for_head pos (view.for_init_of init.now) (option_map expr_of test.now)
+        (option_map expr_of step.now)) }
 {
     word_at(out, pos, Word::For)?;
     mark(out, Punct::OpenParen)?;
     for_init(alloc, out, init)?;
-    evaluated(alloc, out, test)?;
+    optional_statement(alloc, out, test)?;
     optional(alloc, out, step)?;
     mark(out, Punct::CloseParen)
 }
 
 /// `while (test);` behind the body of a `do`.
 fn do_tail(alloc: Global, out: &mut Output, test: &Expr) -> Result<(), AllocError>
-    ensures { IfOk result (λ _. out.new.items ≡ out.old.items ++ (tokens.word Word.While ∷ spec.spell_controlling (expr_of test.now) ++ tokens.mark Punct.Semicolon ∷ [])) }
+    ensures { IfOk result (λ _. out.new.items
+        ≡ out.old.items ++ (tokens.word Word.While ∷ spec.spell_controlling (expr_of test.now)
+        ++ tokens.mark Punct.Semicolon ∷ [])) }
 {
     word(out, Word::While)?;
-    parenthesized(alloc, out, test)?;
+    paren(alloc, out, test)?;
     mark(out, Punct::Semicolon)
 }
 
 /// A word and a semicolon.
 fn jump(out: &mut Output, pos: Pos, first: Word) -> Result<(), AllocError>
-    ensures { IfOk result (λ _. out.new.items ≡ out.old.items ++ tokens.word_at pos first ∷ tokens.mark Punct.Semicolon ∷ []) }
+    ensures { IfOk result (λ _. out.new.items
+        ≡ out.old.items ++ tokens.word_at pos first ∷ tokens.mark Punct.Semicolon ∷ []) }
 {
     word_at(out, pos, first)?;
     mark(out, Punct::Semicolon)
@@ -204,7 +220,7 @@ fn statement(alloc: Global, out: &mut Output, of: &Statement) -> Result<(), Allo
 {
     match of {
         Statement::Block(list) => block(alloc, out, list.as_slice()),
-        Statement::ExprStmt(expr) => evaluated(alloc, out, expr),
+        Statement::ExprStmt(expr) => optional_statement(alloc, out, expr),
         Statement::If(pos, test, first, second) => {
             head(alloc, out, *pos, Word::If, test)?;
             statement(alloc, out, first)?;
@@ -217,24 +233,24 @@ fn statement(alloc: Global, out: &mut Output, of: &Statement) -> Result<(), Allo
             head(alloc, out, *pos, Word::Switch, test)?;
             switch_block(alloc, out, list.as_slice())
         }
-        Statement::While(pos, test, turn) => {
+        Statement::While(pos, test, body) => {
             head(alloc, out, *pos, Word::While, test)?;
-            statement(alloc, out, turn)
+            statement(alloc, out, body)
         }
-        Statement::Do(pos, turn, test) => {
+        Statement::Do(pos, body, test) => {
             word_at(out, *pos, Word::Do)?;
-            statement(alloc, out, turn)?;
+            statement(alloc, out, body)?;
             do_tail(alloc, out, test)
         }
-        Statement::For(pos, init, test, step, turn) => {
+        Statement::For(pos, init, test, step, body) => {
             for_head(alloc, out, *pos, init, test, step)?;
-            statement(alloc, out, turn)
+            statement(alloc, out, body)
         }
         Statement::Break(pos) => jump(out, *pos, Word::Break),
         Statement::Continue(pos) => jump(out, *pos, Word::Continue),
         Statement::Return(pos, value) => {
             word_at(out, *pos, Word::Return)?;
-            evaluated(alloc, out, value)
+            optional_statement(alloc, out, value)
         }
     }
 }
@@ -242,7 +258,8 @@ fn statement(alloc: Global, out: &mut Output, of: &Statement) -> Result<(), Allo
 /// `else statement`
 #[cycle(statements)]
 fn otherwise(alloc: Global, out: &mut Output, second: &Statement) -> Result<(), AllocError>
-    ensures { IfOk result (λ _. out.new.items ≡ out.old.items ++ tokens.word Word.Else ∷ spec.spell_statement (view.statement_of second.now)) }
+    ensures { IfOk result (λ _. out.new.items
+        ≡ out.old.items ++ tokens.word Word.Else ∷ spec.spell_statement (view.statement_of second.now)) }
 {
     word(out, Word::Else)?;
     statement(alloc, out, second)
@@ -251,7 +268,10 @@ fn otherwise(alloc: Global, out: &mut Output, second: &Statement) -> Result<(), 
 /// `{ items }`
 #[cycle(statements)]
 fn block(alloc: Global, out: &mut Output, list: &[BlockItem]) -> Result<(), AllocError>
-    ensures { IfOk result (λ _. out.new.items ≡ out.old.items ++ (tokens.mark Punct.OpenBrace ∷ flat_map (λ i. spec.spell_block_item (view.block_item_of i)) list.now ++ tokens.mark Punct.CloseBrace ∷ [])) }
+    ensures { IfOk result (λ _. out.new.items
+        ≡ out.old.items
+        ++ (tokens.mark Punct.OpenBrace ∷ flat_map (λ i. spec.spell_block_item (view.block_item_of i)) list.now
+        ++ tokens.mark Punct.CloseBrace ∷ [])) }
 {
     mark(out, Punct::OpenBrace)?;
     block_items(alloc, out, list)?;
@@ -261,7 +281,10 @@ fn block(alloc: Global, out: &mut Output, list: &[BlockItem]) -> Result<(), Allo
 /// `{ items }`
 #[cycle(statements)]
 fn switch_block(alloc: Global, out: &mut Output, list: &[SwitchItem]) -> Result<(), AllocError>
-    ensures { IfOk result (λ _. out.new.items ≡ out.old.items ++ (tokens.mark Punct.OpenBrace ∷ flat_map (λ i. spec.spell_switch_item (view.switch_item_of i)) list.now ++ tokens.mark Punct.CloseBrace ∷ [])) }
+    ensures { IfOk result (λ _. out.new.items
+        ≡ out.old.items
+        ++ (tokens.mark Punct.OpenBrace ∷ flat_map (λ i. spec.spell_switch_item (view.switch_item_of i)) list.now
+        ++ tokens.mark Punct.CloseBrace ∷ [])) }
 {
     mark(out, Punct::OpenBrace)?;
     switch_items(alloc, out, list)?;
@@ -270,7 +293,8 @@ fn switch_block(alloc: Global, out: &mut Output, list: &[SwitchItem]) -> Result<
 
 #[cycle(statements)]
 fn block_items(alloc: Global, out: &mut Output, list: &[BlockItem]) -> Result<(), AllocError>
-    ensures { IfOk result (λ _. out.new.items ≡ out.old.items ++ flat_map (λ i. spec.spell_block_item (view.block_item_of i)) list.now) }
+    ensures { IfOk result (λ _. out.new.items
+        ≡ out.old.items ++ flat_map (λ i. spec.spell_block_item (view.block_item_of i)) list.now) }
 {
     for each in list {
         block_item(alloc, out, each)?;
@@ -291,7 +315,8 @@ fn block_item(alloc: Global, out: &mut Output, each: &BlockItem) -> Result<(), A
 
 #[cycle(statements)]
 fn switch_items(alloc: Global, out: &mut Output, list: &[SwitchItem]) -> Result<(), AllocError>
-    ensures { IfOk result (λ _. out.new.items ≡ out.old.items ++ flat_map (λ i. spec.spell_switch_item (view.switch_item_of i)) list.now) }
+    ensures { IfOk result (λ _. out.new.items
+        ≡ out.old.items ++ flat_map (λ i. spec.spell_switch_item (view.switch_item_of i)) list.now) }
 {
     for each in list {
         switch_item(alloc, out, each)?;
@@ -301,7 +326,8 @@ fn switch_items(alloc: Global, out: &mut Output, list: &[SwitchItem]) -> Result<
 
 #[cycle(statements)]
 fn switch_item(alloc: Global, out: &mut Output, each: &SwitchItem) -> Result<(), AllocError>
-    ensures { IfOk result (λ _. out.new.items ≡ out.old.items ++ spec.spell_switch_item (view.switch_item_of each.now)) }
+    ensures { IfOk result (λ _. out.new.items
+        ≡ out.old.items ++ spec.spell_switch_item (view.switch_item_of each.now)) }
 {
     match each {
         SwitchItem::Case(pos, value) => {

@@ -1,3 +1,5 @@
+//! A token as the printer gives it.
+
 use c_lexer::Body;
 use critical_table::Pos;
 

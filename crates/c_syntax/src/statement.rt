@@ -1,3 +1,5 @@
+//! Statements and what stands in their blocks (6.8).
+
 use crate::declaration::{Assert, Declaration};
 use crate::expression::Expr;
 use critical_table::Pos;

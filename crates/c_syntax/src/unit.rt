@@ -1,3 +1,5 @@
+//! Functions and whole units (6.9).
+
 use crate::declaration::{Assert, Declaration};
 use crate::declarator::Declarator;
 use crate::specifier::Specifier;

@@ -1,3 +1,5 @@
+//! The words and marks that spell operators and specifiers (6.4.1, 6.4.6).
+
 ghost use Rattle.std.specs.Prelude.{◌≡◌};
 ghost use Rattle.c_syntax.specs.Operators as spec;
 
@@ -49,8 +51,8 @@ fn arithmetic_token(operator: Arithmetic) -> Punct
     }
 }
 
-fn compound_token(operator: Arithmetic) -> Punct
-    ensures { result ≡ spec.compound_token operator }
+fn assignment_token(operator: Arithmetic) -> Punct
+    ensures { result ≡ spec.assignment_token operator }
 {
     match operator {
         Arithmetic::Multiply => Punct::StarAssign,
@@ -88,7 +90,7 @@ pub(crate) fn infix_token(operator: Infix) -> Punct
         Infix::AndAlso => Punct::AndAnd,
         Infix::OrElse => Punct::OrOr,
         Infix::Assign => Punct::Assign,
-        Infix::AssignOp(operator) => compound_token(operator),
+        Infix::AssignOp(operator) => assignment_token(operator),
         Infix::Comma => Punct::Comma,
     }
 }

@@ -2,7 +2,8 @@
 use Rattle.std.proofs.Common.{◌≡◌, ℕ, refl, ap, ◌∙◌, arith}
 use Rattle.std.specs.Prelude.{Bool, true, false, not, ◌&&◌, ◌||◌, ◌==◌, Option, Some, None}
 use Rattle.c_types.specs.declared.shape.Quals.{Quals}
-use Rattle.c_types.specs.CType.{CType, CTypes, Bare, Plain, Array, BasicType, Pointer, Function, Compound, Enumerated, Nil, Cons, number_of}
+use Rattle.c_types.specs.CType.{CType, CTypes, Bare, Plain, Array, BasicType, Pointer, Function, Compound, Enumerated}
+use Rattle.c_types.specs.CType.{Nil, Cons, number_of}
 use Rattle.c_types.specs.Compatible.{agree, bare_agree, all_agree, same_bool, same_quals, lengths_agree}
 
 same_number : (m n : ℕ) → (m == n) ≡ (n == m)
@@ -26,10 +27,13 @@ both a b c d p q = ap (λ x. x && b) p ∙ ap (λ y. c && y) q
 
 same_quals-sym : (q r : Quals) → same_quals q r ≡ same_quals r q
 same_quals-sym q r =
-    both _ _ _ _ (both _ _ _ _ (same_bool-sym q.constant r.constant) (same_bool-sym q.volatile r.volatile)) (same_bool-sym q.restricted r.restricted)
+    both _ _ _ _ (both _ _ _ _ (same_bool-sym q.constant r.constant) (same_bool-sym q.volatile r.volatile))
+    (same_bool-sym q.restricted r.restricted)
 
 pub same_quals-own : (q : Quals) → same_quals q q ≡ true
-same_quals-own q = both _ _ true true (both _ _ true true (same_bool-own q.constant) (same_bool-own q.volatile)) (same_bool-own q.restricted)
+same_quals-own q =
+    both _ _ true true (both _ _ true true (same_bool-own q.constant) (same_bool-own q.volatile))
+    (same_bool-own q.restricted)
 
 lengths-sym : (m n : Option ℕ) → lengths_agree m n ≡ lengths_agree n m
 lengths-sym None None = refl
@@ -45,7 +49,8 @@ mutual
   unfolding agree bare_agree all_agree
 
   pub agree-sym : (a b : CType) (strict : Bool) → agree a b strict ≡ agree b a strict
-  agree-sym (Plain x q) (Plain y r) strict = both _ _ _ _ (ap (λ s. not strict || s) (same_quals-sym q r)) (bare_agree-sym x y)
+  agree-sym (Plain x q) (Plain y r) strict =
+      both _ _ _ _ (ap (λ s. not strict || s) (same_quals-sym q r)) (bare_agree-sym x y)
   agree-sym (Array t m) (Array u n) strict = both _ _ _ _ (lengths-sym m n) (agree-sym t u strict)
   agree-sym (Plain x q) (Array u n) strict = refl
   agree-sym (Array t m) (Plain y r) strict = refl
@@ -81,7 +86,8 @@ mutual
   bare_agree-own (Compound m) = own_number m
   bare_agree-own (Enumerated m) = own_number m
   bare_agree-own (Pointer t) = agree-own t true
-  bare_agree-own (Function g ps v) = both _ _ true true (both _ _ true true (agree-own g true) (same_bool-own v)) (all_agree-own ps)
+  bare_agree-own (Function g ps v) =
+      both _ _ true true (both _ _ true true (agree-own g true) (same_bool-own v)) (all_agree-own ps)
 
   all_agree-own : (ps : CTypes) → all_agree ps ps ≡ true
   all_agree-own Nil = refl

@@ -1,5 +1,6 @@
 -- How many parts types have.
-use Rattle.std.proofs.Common.{◌≡◌, ℕ, ◌+◌, ◌<◌, ◌≤◌, max, List, [], ◌∷◌, length, drop, refl, ap, sym, ◌∙◌, arith, slice_get, slice_index_or}
+use Rattle.std.proofs.Common.{◌≡◌, ℕ, ◌+◌, ◌<◌, ◌≤◌, max, List, [], ◌∷◌, length, drop, refl, ap, sym, ◌∙◌, arith}
+use Rattle.std.proofs.Common.{slice_get, slice_index_or}
 use Rattle.std.specs.Prelude.{Option, Some, None}
 use Rattle.std.proofs.lemmas.List.{drop_more, drop_all}
 use Rattle.c_types.specs.declared.shape.Shape.{Shape}
@@ -7,8 +8,10 @@ use Rattle.c_types.specs.declared.shape.Shape.TheVariants as s
 use Rattle.c_types.specs.declared.shape.Quals.{Quals}
 use Rattle.c_types.specs.declared.shape.TypeId.{TypeId}
 use Rattle.c_types.specs.Types.{FunctionParts}
-use Rattle.c_types.specs.CType.{CType, CTypes, Bare, Plain, Array, BasicType, Pointer, Function, Compound, Enumerated, Nil, Cons, type_at, types_at, type_with, function_at}
-use Rattle.c_types.specs.PartCount.{part_count, bare_count, all_counts, function_count, height, bare_height, greatest_height, comparisons, bare_comparisons, all_comparisons}
+use Rattle.c_types.specs.CType.{CType, CTypes, Bare, Plain, Array, BasicType, Pointer, Function, Compound, Enumerated}
+use Rattle.c_types.specs.CType.{Nil, Cons, type_at, types_at, type_with, function_at}
+use Rattle.c_types.specs.PartCount.{part_count, bare_count, all_counts, function_count, height, bare_height}
+use Rattle.c_types.specs.PartCount.{greatest_height, comparisons, bare_comparisons, all_comparisons}
 
 -- qualifiers are no part
 pub same_count : (fs : List FunctionParts) (all : List CType) (shape : Shape) (q r : Quals) →

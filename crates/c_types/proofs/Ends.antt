@@ -1,5 +1,6 @@
 -- Structures whose members are placed one after the other.
-use Rattle.std.proofs.Common.{◌≡◌, ℕ, ◌+◌, ◌<◌, ◌≤◌, List, [], ◌∷◌, ◌++◌, length, drop, append_assoc, refl, ap, sym, ◌∙◌, arith, slice_index_or}
+use Rattle.std.proofs.Common.{◌≡◌, ℕ, ◌+◌, ◌<◌, ◌≤◌, List, [], ◌∷◌, ◌++◌, length, drop, append_assoc, refl, ap, sym}
+use Rattle.std.proofs.Common.{◌∙◌, arith, slice_index_or}
 use Rattle.std.specs.Prelude.{Bool, true, false, Option, Some, None}
 use Rattle.std.proofs.lemmas.List.{drop_more, length-map}
 use Rattle.c_types.specs.declared.layout.Layout.{Layout}
@@ -7,18 +8,23 @@ use Rattle.c_types.specs.declared.shape.TypeId.{TypeId}
 use Rattle.c_types.specs.Types.{Types}
 use Rattle.c_types.specs.CType.{type_of}
 use Rattle.c_types.specs.Structures.{structures_of}
-use Rattle.c_types.specs.Layouts.{layouts_after, end_from, round_up, places_from, places_with, layout_of, layout_and, layouts_of}
+use Rattle.c_types.specs.Layouts.{layouts_after, end_from, round_up, places_from, places_with, layout_of, layout_and}
+use Rattle.c_types.specs.Layouts.{layouts_of}
 
 -- the end is not before any byte on the way to it
 pub end_from_ge : (from : ℕ) (layouts : List Layout) → from ≤ end_from from layouts
 end_from_ge from [] = omega arith
 end_from_ge from (l ∷ ls) = omega (arith, end_from_ge (round_up from l.align + l.size) ls)
 
-pub end_step : (from : ℕ) (xs : List Layout) (i : ℕ) (d e : Layout) (at size : ℕ) → i < length xs → at ≡ round_up from (slice_index_or xs i d).align → size ≡ (slice_index_or xs i d).size → end_from from (drop i xs) ≡ end_from (at + size) (drop (i + 1) xs)
+pub end_step : (from : ℕ) (xs : List Layout) (i : ℕ) (d e : Layout) (at size : ℕ) → i < length xs
+    → at ≡ round_up from (slice_index_or xs i d).align → size ≡ (slice_index_or xs i d).size
+    → end_from from (drop i xs) ≡ end_from (at + size) (drop (i + 1) xs)
 end_step from xs i d e at size below a s =
     ap (end_from from) (drop_more xs i d below) ∙ sym (cc (a, s))
 
-pub places_step : (from : ℕ) (xs : List Layout) (i : ℕ) (d e : Layout) (at size : ℕ) → i < length xs → at ≡ round_up from (slice_index_or xs i d).align → size ≡ (slice_index_or xs i d).size → places_from from (drop i xs) ≡ at ∷ places_from (at + size) (drop (i + 1) xs)
+pub places_step : (from : ℕ) (xs : List Layout) (i : ℕ) (d e : Layout) (at size : ℕ) → i < length xs
+    → at ≡ round_up from (slice_index_or xs i d).align → size ≡ (slice_index_or xs i d).size
+    → places_from from (drop i xs) ≡ at ∷ places_from (at + size) (drop (i + 1) xs)
 places_step from xs i d e at size below a s =
     ap (places_from from) (drop_more xs i d below) ∙ sym (cc (a, s))
 
@@ -26,15 +32,20 @@ length-places_from : (from : ℕ) (layouts : List Layout) → length (places_fro
 length-places_from from [] = refl
 length-places_from from (l ∷ ls) = let rest = length-places_from (round_up from l.align + l.size) ls in cc
 
-pub length_places_with : (is_union : Bool) (layouts : List Layout) → length (places_with is_union layouts) ≡ length layouts
+pub length_places_with : (is_union : Bool) (layouts : List Layout) → length (places_with is_union layouts)
+    ≡ length layouts
 length_places_with true layouts = length-map layouts (λ l. 0)
 length_places_with false layouts = length-places_from 0 layouts
 
-pub length_layouts_of : (types : Types) (ids : List TypeId) (ls : List Layout) → layouts_of types ids ≡ Some ls → length ls ≡ length ids
+pub length_layouts_of : (types : Types) (ids : List TypeId) (ls : List Layout) → layouts_of types ids ≡ Some ls
+    → length ls ≡ length ids
 length_layouts_of types [] ls h = grind arith
-length_layouts_of types (id ∷ ids) ls h = both (layout_of (type_of types id) (structures_of types)) (layouts_of types ids) (length_layouts_of types ids) ls h
+length_layouts_of types (id ∷ ids) ls h =
+    both (layout_of (type_of types id) (structures_of types)) (layouts_of types ids) (length_layouts_of types ids) ls h
   where
-    both : (o : Option Layout) (os : Option (List Layout)) → ((ms : List Layout) → os ≡ Some ms → length ms ≡ length ids) → (ls : List Layout) → layout_and o os ≡ Some ls → length ls ≡ length (id ∷ ids)
+    both : (o : Option Layout) (os : Option (List Layout))
+        → ((ms : List Layout) → os ≡ Some ms → length ms ≡ length ids) → (ls : List Layout)
+        → layout_and o os ≡ Some ls → length ls ≡ length (id ∷ ids)
     both (Some l) (Some ms) rec ls h = let m = rec ms refl in cc
     both (Some l) None rec ls h = cc
     both None os rec ls h = cc

@@ -12,7 +12,8 @@ use Rattle.c_types.specs.Types.{Types, count_of}
 use Rattle.c_types.specs.CType.{CType, number_of, Plain, BasicType, type_of, type_with, all_types, no_quals}
 use Rattle.c_types.specs.Layouts.{basic_layout, layout_of}
 use Rattle.c_types.specs.Shapes.{RefersBelow, no_entry, entry_at}
-use Rattle.c_types.specs.Inner.{IsSound, KeepsLayout, CountsParts, HasMembersIn, basics, entry_of, parts_of, compound_of}
+use Rattle.c_types.specs.Inner.{IsSound, KeepsLayout, CountsParts, HasMembersIn, basics, entry_of, parts_of}
+use Rattle.c_types.specs.Inner.{compound_of}
 use Rattle.c_types.proofs.Showing.{shows}
 use Rattle.c_types.proofs.Sound.{begins_there}
 
@@ -65,10 +66,14 @@ sound-fresh =
       members = All-nil (HasMembersIn fresh);
     }
   where
-    layout : (id : TypeId) (basic : Basic) → entry_at fresh id.0 ≡ entry_of basic → type_of fresh id ≡ type_with [] (all_types fresh) (entry_at fresh id.0).shape (entry_at fresh id.0).quals → KeepsLayout (entry_at fresh id.0).shape (entry_at fresh id.0).layout (type_of fresh id) []
+    layout : (id : TypeId) (basic : Basic) → entry_at fresh id.0 ≡ entry_of basic
+        → type_of fresh id ≡ type_with [] (all_types fresh) (entry_at fresh id.0).shape (entry_at fresh id.0).quals
+        → KeepsLayout (entry_at fresh id.0).shape (entry_at fresh id.0).layout (type_of fresh id) []
     layout id basic e stands =
-        let type : type_of fresh id ≡ Plain (BasicType basic) no_quals = stands ∙ ap (λ (m : Made). type_with [] (all_types fresh) m.shape m.quals) e in
-        subst (λ (m : Made). KeepsLayout m.shape m.layout (type_of fresh id) []) (sym e) (record { layout = subst (λ (t : CType). basic_layout basic ≡ layout_of t []) (sym type) refl; own = tt })
+        let type : type_of fresh id ≡ Plain (BasicType basic) no_quals =
+        stands ∙ ap (λ (m : Made). type_with [] (all_types fresh) m.shape m.quals) e in
+        subst (λ (m : Made). KeepsLayout m.shape m.layout (type_of fresh id) []) (sym e)
+        (record { layout = subst (λ (t : CType). basic_layout basic ≡ layout_of t []) (sym type) refl; own = tt })
 
     parts : (id : TypeId) (basic : Basic) → entry_at fresh id.0 ≡ entry_of basic →
         type_of fresh id ≡ type_with [] (all_types fresh) (entry_at fresh id.0).shape (entry_at fresh id.0).quals →
@@ -98,11 +103,14 @@ first_entry b.LongLong = refl
 first_entry b.ULongLong = refl
 
 -- each table has the basic types in the first places
-pub basic_there : (types : Types) (basic : Basic) (id : TypeId) → IsSound types → id.0 ≡ number_of basic → (id.0 < count_of types) × (type_of types id ≡ Plain (BasicType basic) no_quals)
+pub basic_there : (types : Types) (basic : Basic) (id : TypeId) → IsSound types → id.0 ≡ number_of basic
+    → (id.0 < count_of types) × (type_of types id ≡ Plain (BasicType basic) no_quals)
 basic_there types basic id sound place =
     let small : id.0 < 13 = omega (arith, place, place_below basic) in
     let below : id.0 < count_of types = omega (arith, begins_there types sound, small) in
     let entry : entry_at types id.0 ≡ entry_of basic =
-    sym (get_or-take 13 types.made id.0 no_entry small) ∙ ap (λ (l : List Made). slice_index_or l id.0 no_entry) sound.begins ∙ ap (λ n. slice_index_or basics n no_entry) place ∙ first_entry basic in
+    sym (get_or-take 13 types.made id.0 no_entry small)
+    ∙ ap (λ (l : List Made). slice_index_or l id.0 no_entry) sound.begins
+    ∙ ap (λ n. slice_index_or basics n no_entry) place ∙ first_entry basic in
     let shown = shows types id below (sound.refers id.0 below) in
     (below, shown.stands_for ∙ ap (λ (m : Made). type_with types.functions (all_types types) m.shape m.quals) entry)

@@ -9,14 +9,17 @@ use Rattle.c_types.specs.Making.{KeepsTypes, MakesType, with_made}
 use Rattle.c_types.specs.Inner.{IsSound}
 use Rattle.c_types.proofs.Kept.{same_structures, grows_by_types}
 
-pub length-types_from : (functions : List FunctionParts) (types : List CType) (made : List Made) → length (types_from functions types made) ≡ length types + length made
+pub length-types_from : (functions : List FunctionParts) (types : List CType) (made : List Made)
+    → length (types_from functions types made) ≡ length types + length made
 unfolding types_from
 length-types_from functions types [] = omega arith
 length-types_from functions types (next ∷ rest) =
     let step = length-types_from functions (types ++ type_with functions types next.shape next.quals ∷ []) rest in
     omega (arith, step, length-append types (type_with functions types next.shape next.quals ∷ []))
 
-pub types_from-push : (functions : List FunctionParts) (types : List CType) (made : List Made) (last : Made) → types_from functions types (made ++ last ∷ []) ≡ types_from functions types made ++ type_with functions (types_from functions types made) last.shape last.quals ∷ []
+pub types_from-push : (functions : List FunctionParts) (types : List CType) (made : List Made) (last : Made)
+    → types_from functions types (made ++ last ∷ []) ≡ types_from functions types made
+    ++ type_with functions (types_from functions types made) last.shape last.quals ∷ []
 unfolding types_from
 types_from-push functions types [] last = refl
 types_from-push functions types (next ∷ rest) last =

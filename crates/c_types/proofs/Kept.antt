@@ -1,5 +1,6 @@
 -- What a table keeps as it grows: types, structures and unions, layouts.
-use Rattle.std.proofs.Common.{◌≡◌, ◌≢◌, ◌⊎◌, ℕ, zero, suc, ◌<◌, List, [], ◌∷◌, ◌++◌, length, All, map, refl, ap, sym, subst, ◌∙◌, arith, slice_set, inl, inr}
+use Rattle.std.proofs.Common.{◌≡◌, ◌≢◌, ◌⊎◌, ℕ, zero, suc, ◌<◌, List, [], ◌∷◌, ◌++◌, length, All, map, refl, ap, sym}
+use Rattle.std.proofs.Common.{subst, ◌∙◌, arith, slice_set, inl, inr}
 use Rattle.std.specs.Prelude.{Bool, false, ◌||◌, Option, Some, None, IfSome, option_map}
 use Rattle.std.proofs.lemmas.Bool.{cases_eq}
 use Rattle.std.proofs.lemmas.List.{get_or_append_left, get_or-set_same, get_or-set_other, length-map, length-append}
@@ -9,7 +10,8 @@ use Rattle.c_types.specs.declared.layout.Layout.{Layout}
 use Rattle.c_types.specs.declared.member.Member.{Member}
 use Rattle.c_types.specs.declared.shape.TypeId.{TypeId}
 use Rattle.c_types.specs.Types.{Types, CompoundBody, CompoundParts, count_of}
-use Rattle.c_types.specs.CType.{CType, Plain, Array, BasicType, Pointer, Function, Compound, Enumerated, all_types, type_of}
+use Rattle.c_types.specs.CType.{CType, Plain, Array, BasicType, Pointer, Function, Compound, Enumerated, all_types}
+use Rattle.c_types.specs.CType.{type_of}
 use Rattle.c_types.specs.Structures as st
 use Rattle.c_types.specs.Structures.{Structure, StructureBody, structure_at, structures_of, no_members}
 use Rattle.c_types.specs.Layouts.{layout_of, structure_layout, times}

@@ -1,5 +1,6 @@
 -- The members of structures and unions: those that are made, and what is found of them.
-use Rattle.std.proofs.Common.{◌≡◌, ℕ, ◌<◌, List, [], ◌∷◌, All, map, refl, ap, sym, ◌∙◌, zero, suc, slice_index_or, length}
+use Rattle.std.proofs.Common.{◌≡◌, ℕ, ◌<◌, List, [], ◌∷◌, All, map, refl, ap, sym, ◌∙◌, zero, suc, slice_index_or}
+use Rattle.std.proofs.Common.{length}
 use Rattle.std.specs.Prelude.{Bool, true, false, Option, Some, None, IfSome, option_map, if◌then◌else◌}
 use Rattle.std.specs.Str.{bytes_eq}
 use Rattle.std.proofs.lemmas.List.{get_or-map}
@@ -9,7 +10,8 @@ use Rattle.c_types.specs.declared.shape.TypeId.{TypeId}
 use Rattle.c_types.specs.declared.parts.CompoundType.{CompoundType}
 use Rattle.c_types.specs.declared.table.TypeTable.TheInside.{Inside}
 use Rattle.c_types.specs.Types.{Types, CompoundParts, CompoundBody}
-use Rattle.c_types.specs.CType.{CType, Plain, Array, BasicType, Pointer, Function, Compound, Enumerated, type_at, all_types}
+use Rattle.c_types.specs.CType.{CType, Plain, Array, BasicType, Pointer, Function, Compound, Enumerated, type_at}
+use Rattle.c_types.specs.CType.{all_types}
 use Rattle.c_types.specs.Structures as st
 use Rattle.c_types.specs.Structures.{Structure, structure_at, structures_of}
 use Rattle.c_types.specs.Compounds.{members_with, members_at, members_in, member_named, parts_at, incomplete}

@@ -1,5 +1,6 @@
 -- Lists of parameters, compared from the front.
-use Rattle.std.proofs.Common.{◌≡◌, ◌≢◌, ℕ, suc, ◌+◌, ◌<◌, ◌≤◌, List, [], ◌∷◌, length, drop, refl, ap, sym, ◌∙◌, slice_index_or}
+use Rattle.std.proofs.Common.{◌≡◌, ◌≢◌, ℕ, suc, ◌+◌, ◌<◌, ◌≤◌, List, [], ◌∷◌, length, drop, refl, ap, sym, ◌∙◌}
+use Rattle.std.proofs.Common.{slice_index_or}
 use Rattle.std.specs.Prelude.{Bool, true, false, ◌&&◌}
 use Rattle.std.proofs.lemmas.List.{drop_more, drop_all}
 use Rattle.c_types.specs.declared.shape.TypeId.{TypeId}
@@ -10,7 +11,8 @@ and-false : (b : Bool) → (b && false) ≡ false
 and-false true = refl
 and-false false = refl
 
-pub lengths_differ : (all : List CType) (xs ys : List TypeId) → length xs ≢ length ys → all_agree (types_at all xs) (types_at all ys) ≡ false
+pub lengths_differ : (all : List CType) (xs ys : List TypeId) → length xs ≢ length ys
+    → all_agree (types_at all xs) (types_at all ys) ≡ false
 unfolding all_agree
 lengths_differ all [] [] h = absurd (h refl)
 lengths_differ all [] (y ∷ ys) h = refl
@@ -23,26 +25,41 @@ pub both_end : (all : List CType) → all_agree (types_at all []) (types_at all 
 unfolding all_agree
 both_end all = refl
 
-opened : (all : List CType) (x y : TypeId) (xs ys : List TypeId) → all_agree (types_at all (x ∷ xs)) (types_at all (y ∷ ys)) ≡ (agree (type_at all x) (type_at all y) false && all_agree (types_at all xs) (types_at all ys))
+opened : (all : List CType) (x y : TypeId) (xs ys : List TypeId)
+    → all_agree (types_at all (x ∷ xs)) (types_at all (y ∷ ys))
+    ≡ (agree (type_at all x) (type_at all y) false && all_agree (types_at all xs) (types_at all ys))
 unfolding all_agree
 opened all x y xs ys = refl
 
-first_agree : (all : List CType) (xs ys : List TypeId) (i : ℕ) (d e : TypeId) → i < length xs → i < length ys → all_agree (types_at all (drop i xs)) (types_at all (drop i ys)) ≡ (agree (type_at all (slice_index_or xs i d)) (type_at all (slice_index_or ys i e)) false && all_agree (types_at all (drop (i + 1) xs)) (types_at all (drop (i + 1) ys)))
+first_agree : (all : List CType) (xs ys : List TypeId) (i : ℕ) (d e : TypeId) → i < length xs → i < length ys
+    → all_agree (types_at all (drop i xs)) (types_at all (drop i ys))
+    ≡ (agree (type_at all (slice_index_or xs i d)) (type_at all (slice_index_or ys i e)) false
+    && all_agree (types_at all (drop (i + 1) xs)) (types_at all (drop (i + 1) ys)))
 first_agree all xs ys i d e p q =
     let l = drop_more xs i d p in
     let r = drop_more ys i e q in
     rw (l, r) (opened all _ _ _ _)
 
 -- the next parameters agree, so the rest decides
-pub next_agree : (all : List CType) (xs ys : List TypeId) (i : ℕ) (d e : TypeId) (b : Bool) → i < length xs → i < length ys → b ≡ agree (type_at all (slice_index_or xs i d)) (type_at all (slice_index_or ys i e)) false → b ≡ true → all_agree (types_at all (drop i xs)) (types_at all (drop i ys)) ≡ all_agree (types_at all (drop (i + 1) xs)) (types_at all (drop (i + 1) ys))
+pub next_agree : (all : List CType) (xs ys : List TypeId) (i : ℕ) (d e : TypeId) (b : Bool) → i < length xs
+    → i < length ys → b ≡ agree (type_at all (slice_index_or xs i d)) (type_at all (slice_index_or ys i e)) false
+    → b ≡ true → all_agree (types_at all (drop i xs)) (types_at all (drop i ys))
+    ≡ all_agree (types_at all (drop (i + 1) xs)) (types_at all (drop (i + 1) ys))
 next_agree all xs ys i d e b p q given agrees =
-    first_agree all xs ys i d e p q ∙ ap (λ (x : Bool). x && all_agree (types_at all (drop (i + 1) xs)) (types_at all (drop (i + 1) ys))) (sym given ∙ agrees)
+    first_agree all xs ys i d e p q
+    ∙ ap (λ (x : Bool). x && all_agree (types_at all (drop (i + 1) xs)) (types_at all (drop (i + 1) ys)))
+    (sym given ∙ agrees)
 
 -- the next parameters do not agree
-pub next_differ : (all : List CType) (xs ys : List TypeId) (i : ℕ) (d e : TypeId) (b : Bool) → i < length xs → i < length ys → b ≡ agree (type_at all (slice_index_or xs i d)) (type_at all (slice_index_or ys i e)) false → b ≡ false → all_agree (types_at all (drop i xs)) (types_at all (drop i ys)) ≡ false
+pub next_differ : (all : List CType) (xs ys : List TypeId) (i : ℕ) (d e : TypeId) (b : Bool) → i < length xs
+    → i < length ys → b ≡ agree (type_at all (slice_index_or xs i d)) (type_at all (slice_index_or ys i e)) false
+    → b ≡ false → all_agree (types_at all (drop i xs)) (types_at all (drop i ys)) ≡ false
 next_differ all xs ys i d e b p q given differs =
-    first_agree all xs ys i d e p q ∙ ap (λ (x : Bool). x && all_agree (types_at all (drop (i + 1) xs)) (types_at all (drop (i + 1) ys))) (sym given ∙ differs)
+    first_agree all xs ys i d e p q
+    ∙ ap (λ (x : Bool). x && all_agree (types_at all (drop (i + 1) xs)) (types_at all (drop (i + 1) ys)))
+    (sym given ∙ differs)
 
 -- no parameters are left
-pub none_left : (all : List CType) (xs ys : List TypeId) (i : ℕ) → length xs ≤ i → length ys ≤ i → all_agree (types_at all (drop i xs)) (types_at all (drop i ys)) ≡ true
+pub none_left : (all : List CType) (xs ys : List TypeId) (i : ℕ) → length xs ≤ i → length ys ≤ i
+    → all_agree (types_at all (drop i xs)) (types_at all (drop i ys)) ≡ true
 none_left all xs ys i p q = rw (drop_all i xs p, drop_all i ys q) (both_end all)

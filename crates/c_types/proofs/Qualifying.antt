@@ -19,7 +19,8 @@ layout_of-with_quals (Plain bare quals) more ss = refl
 layout_of-with_quals (Array of None) more ss = refl
 layout_of-with_quals (Array of (Some n)) more ss = ap (option_map (times n)) (layout_of-with_quals of more ss)
 
-pub layout_of-without_quals : (type : CType) (ss : List Structure) → layout_of (without_quals type) ss ≡ layout_of type ss
+pub layout_of-without_quals : (type : CType) (ss : List Structure) → layout_of (without_quals type) ss
+    ≡ layout_of type ss
 layout_of-without_quals (Plain bare quals) ss = refl
 layout_of-without_quals (Array of None) ss = refl
 layout_of-without_quals (Array of (Some n)) ss = ap (option_map (times n)) (layout_of-without_quals of ss)

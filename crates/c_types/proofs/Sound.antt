@@ -1,5 +1,6 @@
 -- A table that is sound stays so as it grows.
-use Rattle.std.proofs.Common.{◌≡◌, ℕ, ◌<◌, ◌≤◌, List, [], ◌∷◌, length, All, refl, ap, sym, subst, ◌∙◌, arith, length-append, inl, inr}
+use Rattle.std.proofs.Common.{◌≡◌, ℕ, ◌<◌, ◌≤◌, List, [], ◌∷◌, length, All, refl, ap, sym, subst, ◌∙◌, arith}
+use Rattle.std.proofs.Common.{length-append, inl, inr}
 use Rattle.std.proofs.Math.Nat.{eq-or-lt_of_le}
 use Rattle.std.proofs.lemmas.List.{get_or_append_left, get_or_push, take-append-le, length-take}
 use Rattle.std.proofs.lemmas.List.Elements.{All-weaker}
@@ -22,12 +23,17 @@ pub begins_there : (types : Types) → IsSound types → 13 ≤ count_of types
 begins_there types sound = omega (arith, length-take 13 types.made, ap length sound.begins)
 
 -- more types leave the members of compound types where they were
-HasMembersIn-more : (old new : Types) → count_of old ≤ count_of new → (parts : CompoundParts) → HasMembersIn old parts → HasMembersIn new parts
+HasMembersIn-more : (old new : Types) → count_of old ≤ count_of new → (parts : CompoundParts)
+    → HasMembersIn old parts → HasMembersIn new parts
 HasMembersIn-more old new more parts h = body parts.body h
   where
-    body : (b : Option CompoundBody) → IfSome b (λ (x : CompoundBody). All (λ (m : Member). m.of.0 < count_of old) x.members) → IfSome b (λ (x : CompoundBody). All (λ (m : Member). m.of.0 < count_of new) x.members)
+    body : (b : Option CompoundBody)
+        → IfSome b (λ (x : CompoundBody). All (λ (m : Member). m.of.0 < count_of old) x.members)
+        → IfSome b (λ (x : CompoundBody). All (λ (m : Member). m.of.0 < count_of new) x.members)
     body None i = tt
-    body (Some x) i = All-weaker (λ (m : Member). m.of.0 < count_of old) (λ (m : Member). m.of.0 < count_of new) (λ m l. omega arith) x.members i
+    body (Some x) i =
+        All-weaker (λ (m : Member). m.of.0 < count_of old) (λ (m : Member). m.of.0 < count_of new)
+        (λ m l. omega arith) x.members i
 
 -- one more type, whose entry is right, leaves the table sound
 pub sound-with_made : (types : Types) (next : Made) → IsSound types →

@@ -1,5 +1,6 @@
 -- A structure or union that is completed changes no layout that was there.
-use Rattle.std.proofs.Common.{◌≡◌, ℕ, zero, suc, ◌<◌, List, [], ◌∷◌, length, All, map, refl, ap, sym, subst, ◌∙◌, arith, slice_set, slice_get}
+use Rattle.std.proofs.Common.{◌≡◌, ℕ, zero, suc, ◌<◌, List, [], ◌∷◌, length, All, map, refl, ap, sym, subst, ◌∙◌}
+use Rattle.std.proofs.Common.{arith, slice_set, slice_get}
 use Rattle.std.specs.Prelude.{Bool, false, Option, Some, None, option_map, IsSome}
 use Rattle.std.proofs.Math.ListN.{length-set}
 use Rattle.std.proofs.lemmas.List.{map-set, length-map}
@@ -17,13 +18,15 @@ use Rattle.c_types.specs.Structures as st
 use Rattle.c_types.specs.Structures.{Structure, structure_at, structures_of}
 use Rattle.c_types.specs.Layouts.{layout_of, places_with, places_from}
 use Rattle.c_types.specs.Making.{KeepsTypes, KeepsStructures, Grows}
-use Rattle.c_types.specs.Compounds.{with_body, parts_at, incomplete, body_with, structure_with, members_with, typed_members}
+use Rattle.c_types.specs.Compounds.{with_body, parts_at, incomplete, body_with, structure_with, members_with}
+use Rattle.c_types.specs.Compounds.{typed_members}
 use Rattle.c_types.specs.Inner.{IsSound, KeepsLayout, HasMembersIn}
 use Rattle.c_types.proofs.Kept.{structures_set, layout_stays}
 use Rattle.c_types.proofs.Members.{structure-at}
 use Rattle.c_types.proofs.Showing.{shows}
 
-keeps : (fs : List FunctionParts) (all : List CType) (shape : Shape) (kept : Option Layout) (quals : Quals) (type : CType)
+keeps : (fs : List FunctionParts) (all : List CType) (shape : Shape) (kept : Option Layout) (quals : Quals)
+    (type : CType)
     (old new : List Structure) → KeepsStructures old new → type ≡ type_with fs all shape quals →
     KeepsLayout shape kept type old → KeepsLayout shape kept type new
 keeps fs all (s.Basic basic) kept quals type old new stays e k = record {
@@ -107,7 +110,10 @@ sound-with_body types n body sound below none members =
     refers : (id : ℕ) (shape : Shape) → RefersBelow types id shape →
         RefersBelow (with_body types n (record { is_union = (parts_at types n).is_union; body = Some body })) id shape
     refers id (s.Compound k) h =
-        omega (arith, length-set types.compounds n (record { is_union = (parts_at types n).is_union; body = Some body }))
+        omega (
+          arith,
+          length-set types.compounds n (record { is_union = (parts_at types n).is_union; body = Some body }),
+        )
     refers id (s.Function k) h = h
     refers id (s.Basic basic) h = h
     refers id (s.Pointer to) h = h

@@ -1,5 +1,6 @@
 -- One more structure or union, still incomplete, changes nothing of the types that are there, and is none of them.
-use Rattle.std.proofs.Common.{◌≡◌, ℕ, zero, suc, List, [], ◌∷◌, ◌++◌, length, map, refl, ap, sym, subst, ◌∙◌, arith, length-append}
+use Rattle.std.proofs.Common.{◌≡◌, ℕ, zero, suc, List, [], ◌∷◌, ◌++◌, length, map, refl, ap, sym, subst, ◌∙◌, arith}
+use Rattle.std.proofs.Common.{length-append}
 use Rattle.std.specs.Prelude.{Bool, Option, Some, None, option_map}
 use Rattle.std.proofs.lemmas.List.{map-append, length-map}
 use Rattle.std.proofs.lemmas.List.Elements.{All-push}
@@ -11,9 +12,11 @@ use Rattle.c_types.specs.declared.parts.Made.{Made}
 use Rattle.c_types.specs.declared.parts.Signature.{Signature}
 use Rattle.c_types.specs.declared.parts.CompoundType.{CompoundType}
 use Rattle.c_types.specs.Types.{Types, count_of}
-use Rattle.c_types.specs.CType.{CType, Plain, Array, BasicType, Pointer, Function, Compound, Enumerated, type_of, all_types, no_quals}
+use Rattle.c_types.specs.CType.{CType, Plain, Array, BasicType, Pointer, Function, Compound, Enumerated, type_of}
+use Rattle.c_types.specs.CType.{all_types, no_quals}
 use Rattle.c_types.specs.Shapes.{RefersBelow, entry_at}
-use Rattle.c_types.specs.Structures.{Structure, StructureBody, structure_at, structures_of, typed_structure, no_members, IsIncomplete}
+use Rattle.c_types.specs.Structures.{Structure, StructureBody, structure_at, structures_of, typed_structure}
+use Rattle.c_types.specs.Structures.{no_members, IsIncomplete}
 use Rattle.c_types.specs.Layouts.{layout_of, times}
 use Rattle.c_types.specs.Making.{KeepsTypes, KeepsStructures, with_made}
 use Rattle.c_types.specs.Compounds.{MakesCompound, with_compound, incomplete}
@@ -72,7 +75,8 @@ sound-with_compound types u sound = record {
   members = All-push (HasMembersIn types) types.compounds (incomplete u) sound.members tt;
 }
   where
-    refers : (id : ℕ) (shape : Shape) → RefersBelow types id shape → RefersBelow (with_compound types (incomplete u)) id shape
+    refers : (id : ℕ) (shape : Shape) → RefersBelow types id shape
+        → RefersBelow (with_compound types (incomplete u)) id shape
     refers id (s.Compound n) h = omega (arith, length-append types.compounds (incomplete u ∷ []))
     refers id (s.Function n) h = h
     refers id (s.Basic basic) h = h
@@ -120,14 +124,16 @@ makes-with_compound_type types u id sound place =
     length-map types.compounds (typed_structure (all_types types)) in
     let structures : structures_of new ≡ structures_of types ++ no_members u ∷ [] =
     map-append (typed_structure (all_types new)) types.compounds (incomplete u ∷ [])
-    ∙ ap (λ (ss : List Structure). ss ++ no_members u ∷ []) (structures_stay types new types.compounds keeps sound.members) in
+    ∙ ap (λ (ss : List Structure). ss ++ no_members u ∷ [])
+    (structures_stay types new types.compounds keeps sound.members) in
     let type : type_of new id ≡ Plain (Compound (length (structures_of types))) no_quals =
     made.stands_for ∙ ap (λ n. Plain (Compound n) no_quals) (sym number) in
     record {
       is_there = made.is_there;
       stands_for = type;
       incomplete = subst (λ (t : CType). IsIncomplete t (structures_of new)) (sym type)
-          (subst (λ (ss : List Structure). (structure_at ss (length (structures_of types))).body ≡ None) (sym structures)
+          (subst (λ (ss : List Structure). (structure_at ss (length (structures_of types))).body ≡ None)
+          (sym structures)
           (none_yet (structures_of types) u));
       is_new = compound_is_new types sound;
       grows = record {

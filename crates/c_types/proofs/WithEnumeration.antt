@@ -1,5 +1,6 @@
 -- One more enumerated type changes nothing of the types that are there, and is none of them.
-use Rattle.std.proofs.Common.{◌≡◌, ◌≢◌, ℕ, ◌+◌, ◌<◌, List, [], ◌∷◌, ◌++◌, length, map, refl, ap, sym, subst, ◌∙◌, arith, slice_get}
+use Rattle.std.proofs.Common.{◌≡◌, ◌≢◌, ℕ, ◌+◌, ◌<◌, List, [], ◌∷◌, ◌++◌, length, map, refl, ap, sym, subst, ◌∙◌}
+use Rattle.std.proofs.Common.{arith, slice_get}
 use Rattle.std.specs.Prelude.{Bool, Option, Some, None}
 use Rattle.std.proofs.lemmas.List.{length-map}
 use Rattle.c_types.specs.declared.shape.Shape.{Shape}
@@ -8,7 +9,8 @@ use Rattle.c_types.specs.declared.shape.Quals.{Quals}
 use Rattle.c_types.specs.declared.shape.TypeId.{TypeId}
 use Rattle.c_types.specs.declared.parts.Made.{Made}
 use Rattle.c_types.specs.Types.{Types, FunctionParts, CompoundParts, count_of}
-use Rattle.c_types.specs.CType.{CType, Bare, Plain, BasicType, Pointer, Function, Compound, Enumerated, bare_of, type_of, type_with, function_at, all_types, no_quals}
+use Rattle.c_types.specs.CType.{CType, Bare, Plain, BasicType, Pointer, Function, Compound, Enumerated, bare_of}
+use Rattle.c_types.specs.CType.{type_of, type_with, function_at, all_types, no_quals}
 use Rattle.c_types.specs.Shapes.{RefersBelow, entry_at}
 use Rattle.c_types.specs.Structures.{Structure, structures_of, typed_structure}
 use Rattle.c_types.specs.Layouts.{scalar}

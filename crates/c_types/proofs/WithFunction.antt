@@ -1,6 +1,8 @@
 -- One more function type among the parts changes nothing of the types that are there.
-use Rattle.std.proofs.Common.{◌≡◌, ℕ, zero, suc, ◌<◌, ◌≤◌, List, [], ◌∷◌, ◌++◌, length, All, map, refl, ap, sym, subst, ◌∙◌, slice_get}
-use Rattle.std.specs.Prelude.{false, Option, Some, None, Result, Ok, Err, is_ok, is_err, if◌then◌else◌, IsSomeAnd, IsSome}
+use Rattle.std.proofs.Common.{◌≡◌, ℕ, zero, suc, ◌<◌, ◌≤◌, List, [], ◌∷◌, ◌++◌, length, All, map, refl, ap, sym}
+use Rattle.std.proofs.Common.{subst, ◌∙◌, slice_get}
+use Rattle.std.specs.Prelude.{false, Option, Some, None, Result, Ok, Err, is_ok, is_err, if◌then◌else◌, IsSomeAnd}
+use Rattle.std.specs.Prelude.{IsSome}
 use Rattle.std.proofs.lemmas.List.{map-append, length-map}
 use Rattle.std.proofs.lemmas.List.Elements.{All-head, All-tail, All-from_get_or}
 use Rattle.c_types.specs.declared.shape.Shape.{Shape}
@@ -11,7 +13,8 @@ use Rattle.c_types.specs.declared.parts.Made.{Made}
 use Rattle.c_types.specs.declared.parts.Signature.{Signature}
 use Rattle.c_types.specs.declared.parts.CompoundType.{CompoundType}
 use Rattle.c_types.specs.Types.{Types, FunctionParts, count_of}
-use Rattle.c_types.specs.CType.{CType, Plain, types_from, Function, type_with, type_at, types_at, function_at, all_types, type_of, no_quals}
+use Rattle.c_types.specs.CType.{CType, Plain, types_from, Function, type_with, type_at, types_at, function_at}
+use Rattle.c_types.specs.CType.{all_types, type_of, no_quals}
 use Rattle.c_types.specs.Shapes.{RefersBelow, entry_at, no_entry}
 use Rattle.c_types.specs.Functions.{with_function}
 use Rattle.c_types.specs.PartCount.{function_count, part_count, most_parts}
@@ -22,7 +25,8 @@ use Rattle.c_types.specs.Making.{MakesType, with_made}
 use Rattle.c_types.proofs.Grows.{adds-with_made, makes}
 use Rattle.c_types.proofs.Sound.{sound-with_made}
 
-slice_get-front : (fs : List FunctionParts) (f : FunctionParts) (n : ℕ) → IsSome (slice_get fs n) → slice_get (fs ++ f ∷ []) n ≡ slice_get fs n
+slice_get-front : (fs : List FunctionParts) (f : FunctionParts) (n : ℕ) → IsSome (slice_get fs n)
+    → slice_get (fs ++ f ∷ []) n ≡ slice_get fs n
 slice_get-front [] f n h = cc
 slice_get-front (x ∷ fs) f zero h = refl
 slice_get-front (x ∷ fs) f (suc n) h = slice_get-front fs f n h
@@ -36,25 +40,33 @@ abbrev HasFunction : List FunctionParts → Shape → Type 0
 HasFunction fs (s.Function n) = IsSome (slice_get fs n)
 HasFunction fs shape = Unit {0}
 
-type_with-function : (fs : List FunctionParts) (f : FunctionParts) (types : List CType) (shape : Shape) (quals : Quals) → HasFunction fs shape → type_with (fs ++ f ∷ []) types shape quals ≡ type_with fs types shape quals
-type_with-function fs f types (s.Function n) quals h = ap (λ o. Plain (function_at types o) quals) (slice_get-front fs f n h)
+type_with-function : (fs : List FunctionParts) (f : FunctionParts) (types : List CType) (shape : Shape)
+    (quals : Quals) → HasFunction fs shape → type_with (fs ++ f ∷ []) types shape quals ≡ type_with fs types shape quals
+type_with-function fs f types (s.Function n) quals h =
+    ap (λ o. Plain (function_at types o) quals) (slice_get-front fs f n h)
 type_with-function fs f types (s.Basic basic) quals h = refl
 type_with-function fs f types (s.Pointer to) quals h = refl
 type_with-function fs f types (s.Array of len) quals h = refl
 type_with-function fs f types (s.Compound n) quals h = refl
 type_with-function fs f types (s.Enumerated n) quals h = refl
 
-types_from-function : (fs : List FunctionParts) (f : FunctionParts) (types : List CType) (made : List Made) → All (λ (m : Made). HasFunction fs m.shape) made → types_from (fs ++ f ∷ []) types made ≡ types_from fs types made
+types_from-function : (fs : List FunctionParts) (f : FunctionParts) (types : List CType) (made : List Made)
+    → All (λ (m : Made). HasFunction fs m.shape) made → types_from (fs ++ f ∷ []) types made ≡ types_from fs types made
 unfolding types_from
 types_from-function fs f types [] h = refl
 types_from-function fs f types (next ∷ rest) h =
-    ap (λ t. types_from (fs ++ f ∷ []) (types ++ t ∷ []) rest) (type_with-function fs f types next.shape next.quals (All-head (λ (m : Made). HasFunction fs m.shape) next rest h))
-    ∙ types_from-function fs f (types ++ type_with fs types next.shape next.quals ∷ []) rest (All-tail (λ (m : Made). HasFunction fs m.shape) next rest h)
+    ap (λ t. types_from (fs ++ f ∷ []) (types ++ t ∷ []) rest)
+    (type_with-function fs f types next.shape next.quals
+    (All-head (λ (m : Made). HasFunction fs m.shape) next rest h))
+    ∙ types_from-function fs f (types ++ type_with fs types next.shape next.quals ∷ []) rest
+    (All-tail (λ (m : Made). HasFunction fs m.shape) next rest h)
 
 has_function : (types : Types) (id : ℕ) (shape : Shape) → RefersBelow types id shape → HasFunction types.functions shape
 has_function types id (s.Function n) h = some (slice_get types.functions n) h
   where
-    some : (o : Option FunctionParts) → IsSomeAnd o (λ (parts : FunctionParts). (parts.gives.0 < id) × All (λ (p : TypeId). p.0 < id) parts.parameters) → IsSome o
+    some : (o : Option FunctionParts)
+        → IsSomeAnd o (λ (parts : FunctionParts). (parts.gives.0 < id)
+        × All (λ (p : TypeId). p.0 < id) parts.parameters) → IsSome o
     some None i = absurd i
     some (Some p) i = refl
 has_function types id (s.Basic basic) h = tt
@@ -63,10 +75,12 @@ has_function types id (s.Array of len) h = tt
 has_function types id (s.Compound n) h = tt
 has_function types id (s.Enumerated n) h = tt
 
-pub all_types-with_function : (types : Types) (f : FunctionParts) → IsSound types → all_types (with_function types f) ≡ all_types types
+pub all_types-with_function : (types : Types) (f : FunctionParts) → IsSound types
+    → all_types (with_function types f) ≡ all_types types
 all_types-with_function types f sound =
     types_from-function types.functions f [] types.made
-    (All-from_get_or (λ (m : Made). HasFunction types.functions m.shape) types.made no_entry (λ i h. has_function types i (entry_at types i).shape (sound.refers i h)))
+    (All-from_get_or (λ (m : Made). HasFunction types.functions m.shape) types.made no_entry
+    (λ i h. has_function types i (entry_at types i).shape (sound.refers i h)))
 
 sound-with_function : (types : Types) (f : FunctionParts) → IsSound types → IsSound (with_function types f)
 sound-with_function types f sound = record {
@@ -82,7 +96,9 @@ sound-with_function types f sound = record {
   where
     refers : (id : ℕ) (shape : Shape) → RefersBelow types id shape → RefersBelow (with_function types f) id shape
     refers id (s.Function n) h =
-        subst (λ (o : Option FunctionParts). IsSomeAnd o (λ (parts : FunctionParts). (parts.gives.0 < id) × All (λ (p : TypeId). p.0 < id) parts.parameters)) (sym (slice_get-front types.functions f n (has_function types id (s.Function n) h))) h
+        subst (λ (o : Option FunctionParts). IsSomeAnd o (λ (parts : FunctionParts). (parts.gives.0 < id)
+        × All (λ (p : TypeId). p.0 < id) parts.parameters))
+        (sym (slice_get-front types.functions f n (has_function types id (s.Function n) h))) h
     refers id (s.Basic basic) h = h
     refers id (s.Pointer to) h = h
     refers id (s.Array of len) h = h
@@ -108,7 +124,8 @@ Counts types f count =
 
 -- the type that the entry stands for
 last_function : (types : Types) (f : FunctionParts) → IsSound types →
-    Plain (function_at (all_types (with_function types f)) (slice_get (types.functions ++ f ∷ []) (length types.functions)))
+    Plain (function_at (all_types (with_function types f))
+    (slice_get (types.functions ++ f ∷ []) (length types.functions)))
     no_quals
     ≡ Plain (Function (type_of types f.gives) (types_at (all_types types) f.parameters) f.variadic) no_quals
 last_function types f sound =

@@ -58,7 +58,8 @@ type_with functions types (s.Enumerated number) quals = Plain (Enumerated number
 -- the types that were made, after these
 unfoldable pub types_from : List FunctionParts → List CType → List Made → List CType
 types_from functions types [] = types
-types_from functions types (next ∷ rest) = types_from functions (types ++ type_with functions types next.shape next.quals ∷ []) rest
+types_from functions types (next ∷ rest) =
+    types_from functions (types ++ type_with functions types next.shape next.quals ∷ []) rest
 
 -- all types of a table, by their ids
 abbrev pub all_types : Types → List CType

@@ -4,7 +4,8 @@ use Rattle.c_types.specs.declared.basic.Basic.{Basic}
 use Rattle.c_types.specs.declared.shape.Shape.{Shape}
 use Rattle.c_types.specs.declared.shape.Shape.TheVariants as s
 use Rattle.c_types.specs.declared.shape.Quals.{Quals}
-use Rattle.c_types.specs.CType.{CType, CTypes, Bare, Plain, Array, BasicType, Pointer, Function, Compound, Enumerated, Nil, Cons, number_of}
+use Rattle.c_types.specs.CType.{CType, CTypes, Bare, Plain, Array, BasicType, Pointer, Function, Compound, Enumerated}
+use Rattle.c_types.specs.CType.{Nil, Cons, number_of}
 
 abbrev pub same_bool : Bool → Bool → Bool
 same_bool true b = b
@@ -12,7 +13,8 @@ same_bool false b = not b
 
 -- identically qualified (6.7.3p10)
 abbrev pub same_quals : Quals → Quals → Bool
-same_quals q r = same_bool q.constant r.constant && same_bool q.volatile r.volatile && same_bool q.restricted r.restricted
+same_quals q r = same_bool q.constant r.constant && same_bool q.volatile r.volatile
+    && same_bool q.restricted r.restricted
 
 abbrev pub is_int : Basic → Bool
 is_int basic = number_of basic == 7
@@ -23,12 +25,14 @@ lengths_agree None n = true
 lengths_agree (Some m) None = true
 lengths_agree (Some m) (Some n) = m == n
 
--- Whether two types are compatible. At a parameter the outermost qualifiers do not count (6.7.6.3p15): `strict` says that
+-- Whether two types are compatible. At a parameter the outermost qualifiers do not count (6.7.6.3p15): `strict` says
+-- that
 -- they do. The parts of a type are smaller than the type, and a compound type is compatible with itself alone, whatever
 -- its members are, so the comparison ends.
 unfoldable mutual
   pub agree : CType → CType → Bool → Bool
-  agree (Plain bare quals) (Plain other quals2) strict = (not strict || same_quals quals quals2) && bare_agree bare other
+  agree (Plain bare quals) (Plain other quals2) strict =
+      (not strict || same_quals quals quals2) && bare_agree bare other
   agree (Array of len) (Array of2 len2) strict = lengths_agree len len2 && agree of of2 strict
   agree (Plain bare quals) (Array of2 len2) strict = false
   agree (Array of len) (Plain other quals2) strict = false

@@ -13,7 +13,8 @@ abbrev pub known_length : Option ℕ → Option ℕ → Option ℕ
 known_length None n = n
 known_length (Some m) n = Some m
 
--- The composite of two types, of which only the compatible ones are asked. Its qualifiers are those of the first at each
+-- The composite of two types, of which only the compatible ones are asked. Its qualifiers are those of the first at
+-- each
 -- place, and compatible types have the same; but a parameter has the unqualified version of its type (6.7.6.3p15). Of
 -- `int` and an enumerated type it is the first.
 unfoldable mutual

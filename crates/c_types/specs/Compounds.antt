@@ -1,12 +1,14 @@
 -- Structures and unions in a table, and their members (6.7.2.1).
-use Rattle.std.specs.Prelude.{◌≡◌, ℕ, ◌<◌, Bool, false, List, [], ◌∷◌, ◌++◌, length, map, Option, Some, None, slice_index_or, slice_set, if◌then◌else◌}
+use Rattle.std.specs.Prelude.{◌≡◌, ℕ, ◌<◌, Bool, false, List, [], ◌∷◌, ◌++◌, length, map, Option, Some, None}
+use Rattle.std.specs.Prelude.{slice_index_or, slice_set, if◌then◌else◌}
 use Rattle.std.specs.Str.{bytes_eq}
 use Rattle.c_types.specs.declared.member.Member.{Member}
 use Rattle.c_types.specs.declared.layout.Layout.{Layout}
 use Rattle.c_types.specs.declared.shape.TypeId.{TypeId}
 use Rattle.c_types.specs.Types.{CompoundParts, CompoundBody, Types, count_of}
 use Rattle.c_types.specs.CType.{CType, Plain, Compound, type_of, all_types, no_quals}
-use Rattle.c_types.specs.Structures.{Structure, TypedMember, structure_at, structures_of, no_members, any_const, IsIncomplete}
+use Rattle.c_types.specs.Structures.{Structure, TypedMember, structure_at, structures_of, no_members, any_const}
+use Rattle.c_types.specs.Structures.{IsIncomplete}
 use Rattle.c_types.specs.Making.{Grows, IsNew}
 use Rattle.c_types.specs.Layouts.{layouts_of, places_with, size_with, strictest}
 
@@ -115,7 +117,8 @@ with_body types number parts = record {
 }
 
 -- The body is that of members with these names and types, each of which has a layout.
-pub record IsBodyOf (table : Types) (is_union : Bool) (names : List (List ℕ)) (types : List TypeId) (body : CompoundBody) : Type 0 where
+pub record IsBodyOf (table : Types) (is_union : Bool) (names : List (List ℕ)) (types : List TypeId)
+    (body : CompoundBody) : Type 0 where
   pub layouts : List Layout
   pub are : layouts_of table types ≡ Some layouts
   pub is : body ≡ body_with is_union names types layouts (any_const (map (type_of table) types) (structures_of table))

@@ -41,7 +41,9 @@ entry_of basic = record { shape = s.Basic basic; quals = no_quals; layout = basi
 
 -- the types that each table begins with
 abbrev pub basics : List Made
-basics = entry_of b.Void ∷ entry_of b.Bool ∷ entry_of b.Char ∷ entry_of b.SChar ∷ entry_of b.UChar ∷ entry_of b.Short ∷ entry_of b.UShort ∷ entry_of b.Int ∷ entry_of b.UInt ∷ entry_of b.Long ∷ entry_of b.ULong ∷ entry_of b.LongLong ∷ entry_of b.ULongLong ∷ []
+basics = entry_of b.Void ∷ entry_of b.Bool ∷ entry_of b.Char ∷ entry_of b.SChar ∷ entry_of b.UChar ∷ entry_of
+    b.Short ∷ entry_of b.UShort ∷ entry_of b.Int ∷ entry_of b.UInt ∷ entry_of b.Long ∷ entry_of b.ULong ∷ entry_of
+    b.LongLong ∷ entry_of b.ULongLong ∷ []
 
 -- the members of a compound type are types of the table
 abbrev pub HasMembersIn : Types → CompoundParts → Type 0
@@ -58,7 +60,8 @@ HasOwnLayout (s.Array of (Some n)) kept = IsSome kept
 HasOwnLayout shape kept = Unit {0}
 
 -- what is kept for a type gives its layout
-pub record KeepsLayout (shape : Shape) (kept : Option Layout) (type : CType) (structures : List Structure) : Type 0 where
+pub record KeepsLayout (shape : Shape) (kept : Option Layout) (type : CType) (structures : List Structure)
+    : Type 0 where
   pub layout : kept_layout shape kept structures ≡ layout_of type structures
   pub own : HasOwnLayout shape kept
 
@@ -71,7 +74,8 @@ pub record CountsParts (kept : ℕ) (type : CType) : Type 0 where
 pub record IsSound (types : Types) : Type 0 where
   pub begins : take 13 types.made ≡ basics
   pub refers : (id : ℕ) → id < count_of types → RefersBelow types id (entry_at types id).shape
-  pub layouts : (id : TypeId) → id.0 < count_of types → KeepsLayout (entry_at types id.0).shape (entry_at types id.0).layout (type_of types id) (structures_of types)
+  pub layouts : (id : TypeId) → id.0 < count_of types
+      → KeepsLayout (entry_at types id.0).shape (entry_at types id.0).layout (type_of types id) (structures_of types)
   pub parts : (id : TypeId) → id.0 < count_of types → CountsParts (entry_at types id.0).parts (type_of types id)
   pub members : All (HasMembersIn types) types.compounds
 

@@ -14,8 +14,10 @@ pub record KeepsTypes (old new : Types) : Type 0 where
 -- Structures and unions are only added and completed: each stays what it is, and keeps the body that it has.
 pub record KeepsStructures (old new : List Structure) : Type 0 where
   pub count : length old ≤ length new
-  pub kind : (number : ℕ) → number < length old → (structure_at new number).is_union ≡ (structure_at old number).is_union
-  pub body : (number : ℕ) (body : StructureBody) → (structure_at old number).body ≡ Some body → (structure_at new number).body ≡ Some body
+  pub kind : (number : ℕ) → number < length old → (structure_at new number).is_union
+      ≡ (structure_at old number).is_union
+  pub body : (number : ℕ) (body : StructureBody) → (structure_at old number).body ≡ Some body
+      → (structure_at new number).body ≡ Some body
 
 -- A table only grows. Each call that changes a table keeps this.
 pub record Grows (old new : Types) : Type 0 where

@@ -1,6 +1,7 @@
 -- How many parts a type has, each counted as often as it stands in it; how deep it nests; how long a comparison takes.
 use Rattle.std.specs.Prelude.{ℕ, ◌+◌, ◌≤◌, max, Option, Some, None}
-use Rattle.c_types.specs.CType.{CType, CTypes, Bare, Plain, Array, BasicType, Pointer, Function, Compound, Enumerated, Nil, Cons}
+use Rattle.c_types.specs.CType.{CType, CTypes, Bare, Plain, Array, BasicType, Pointer, Function, Compound, Enumerated}
+use Rattle.c_types.specs.CType.{Nil, Cons}
 
 -- the most parts that a type of a table has
 abbrev pub most_parts : ℕ

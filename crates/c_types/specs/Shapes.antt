@@ -22,7 +22,8 @@ RefersBelow types id (s.Basic basic) = Unit {0}
 RefersBelow types id (s.Pointer to) = to.0 < id
 RefersBelow types id (s.Array of len) = of.0 < id
 RefersBelow types id (s.Function number) =
-    IsSomeAnd (slice_get types.functions number) (λ (parts : FunctionParts). (parts.gives.0 < id) × All (λ (p : TypeId). p.0 < id) parts.parameters)
+    IsSomeAnd (slice_get types.functions number) (λ (parts : FunctionParts). (parts.gives.0 < id)
+    × All (λ (p : TypeId). p.0 < id) parts.parameters)
 RefersBelow types id (s.Compound number) = number < length types.compounds
 RefersBelow types id (s.Enumerated number) = number < types.enumerations
 

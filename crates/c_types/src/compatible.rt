@@ -4,7 +4,8 @@ ghost use Rattle.std.specs.Prelude.{◌≡◌, ◌<◌, true};
 ghost use Rattle.c_types.specs.Types.{count_of};
 ghost use Rattle.c_types.specs.CType.{CType, type_of};
 ghost use Rattle.c_types.specs.Functions.{IsFunction, parameters_of};
-ghost use Rattle.c_types.specs.Compatible.{compatible, agree, bare_agree, all_agree, lengths_agree, same_quals, is_int, leaves_agree};
+ghost use Rattle.c_types.specs.Compatible.{compatible, agree, bare_agree, all_agree, lengths_agree, same_quals};
+ghost use Rattle.c_types.specs.Compatible.{is_int, leaves_agree};
 ghost use Rattle.c_types.specs.CType.{bare_of};
 
 use crate::basic::Basic;

@@ -74,7 +74,7 @@ impl TypeTable {
 
     // The composite of function types.
     #[cycle(compose)]
-    #[tactic(auto, unfolding(crate::specs::Compatible::agree, crate::specs::Compatible::bare_agree, crate::specs::Composite::composite_of, crate::specs::Composite::bare_composite))]
+    #[tactic(auto, unfolding(crate::specs::Composite::composite_of, crate::specs::Composite::bare_composite))]
     fn compose_functions(&mut self, a: TypeId, b: TypeId) -> Result<TypeId, AllocError>
         requires a { a.0 < count_of self.old }
         requires b { b.0 < count_of self.old }
@@ -101,7 +101,8 @@ impl TypeTable {
         requires b { b.0 < count_of self.old }
         requires a_function { IsFunction (type_of self.old a) }
         requires b_function { IsFunction (type_of self.old b) }
-        requires compatible { all_agree (parameters_of (type_of self.old a)) (parameters_of (type_of self.old b)) ≡ true }
+        requires compatible { all_agree (parameters_of (type_of self.old a)) (parameters_of (type_of self.old b))
+            ≡ true }
         ensures made { IfOk result (λ ids. MakesTypes self.old self.new ids.items
             (all_composites (parameters_of (type_of self.old a)) (parameters_of (type_of self.old b)))) }
         ensures more { AddsTypes self.old self.new }

@@ -1,12 +1,15 @@
 //! Structures and unions: how they are made and completed, and their members.
 
-ghost use Rattle.std.specs.Prelude.{◌≡◌, ℕ, ◌<◌, Some, None, All, length, map, IfOk, IfErr, IfSome, OnOk, OnErr, option_map};
+ghost use Rattle.std.specs.Prelude.{◌≡◌, ℕ, ◌<◌, Some, None, All, length, map, IfOk, IfErr, IfSome, OnOk, OnErr};
+ghost use Rattle.std.specs.Prelude.{option_map};
 ghost use Rattle.c_types.specs.declared.member.Member.{Member};
 ghost use Rattle.c_types.specs.declared.shape.TypeId.{TypeId};
 ghost use Rattle.c_types.specs.Types.{CompoundBody, count_of};
 ghost use Rattle.c_types.specs.CType.{type_of, all_types};
-ghost use Rattle.c_types.specs.Structures.{IsIncomplete, structures_of, any_const, members_of, typed_member, typed_member_named};
-ghost use Rattle.c_types.specs.Compounds.{IsCompound, IsBodyOf, Completes, with_body, number_in, parts_at, MakesCompound, compound_at, members_at, member_named};
+ghost use Rattle.c_types.specs.Structures.{IsIncomplete, structures_of, any_const, members_of, typed_member};
+ghost use Rattle.c_types.specs.Structures.{typed_member_named};
+ghost use Rattle.c_types.specs.Compounds.{IsCompound, IsBodyOf, Completes, with_body, number_in, parts_at};
+ghost use Rattle.c_types.specs.Compounds.{MakesCompound, compound_at, members_at, member_named};
 ghost use Rattle.c_types.specs.Layouts.{layouts_of, compound_fault, IsForWant, IsBuilt};
 ghost use Rattle.c_types.specs.Making.{Grows};
 ghost use Rattle.c_types.specs.Inner.{compound_of, body_of, HasMembersIn};

@@ -2,7 +2,8 @@
 
 ghost use Rattle.std.specs.Prelude.{◌≡◌, ◌^◌, ◌<◌, ◌≤◌, ◌+◌, length, true, false, Some, MatchOption, IfOk};
 ghost use Rattle.std.specs.Result.{result_err};
-ghost use Rattle.c_types.specs.Layouts.{round_up, strictest, end_from, largest_from, end_with, size_with, compound_fault, places_from, places_with, largest};
+ghost use Rattle.c_types.specs.Layouts.{round_up, strictest, end_from, largest_from, end_with, size_with};
+ghost use Rattle.c_types.specs.Layouts.{compound_fault, places_from, places_with, largest};
 ghost use Rattle.c_types.specs.Compounds.{members_with};
 
 use crate::fault::LayoutFault;

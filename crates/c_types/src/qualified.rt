@@ -49,7 +49,9 @@ impl TypeTable {
         }
     }
 
-    /// The unqualified version of the type (6.2.5p26), as a value has it (6.3.2.1p2); that of an array has such elements.
+    /// The unqualified version of the type (6.2.5p26), as a value has it (6.3.2.1p2).
+    ///
+    /// That of an array has the unqualified elements. A type without qualifiers is its own.
     pub fn unqualified(&mut self, id: TypeId) -> Result<TypeId, AllocError>
         requires { id.0 < count_of self.old }
         ensures made { IfOk result

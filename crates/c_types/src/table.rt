@@ -5,7 +5,8 @@ ghost use Rattle.c_types.specs.declared.layout.Layout.{Layout};
 ghost use Rattle.c_types.specs.declared.shape.Shape.{Shape};
 ghost use Rattle.c_types.specs.declared.parts.Made.{Made};
 ghost use Rattle.c_types.specs.Types.{count_of};
-ghost use Rattle.c_types.specs.CType.{Plain, Array, BasicType, Pointer, Enumerated, quals_of, type_of, type_with, all_types, no_quals};
+ghost use Rattle.c_types.specs.CType.{Plain, Array, BasicType, Pointer, Enumerated, quals_of, type_of, type_with};
+ghost use Rattle.c_types.specs.CType.{all_types, no_quals};
 ghost use Rattle.c_types.specs.Shapes.{RefersBelow, ShowsType, entry_at};
 ghost use Rattle.c_types.specs.PartCount.{part_count, most_parts};
 ghost use Rattle.c_types.specs.Structures.{structure_at, structures_of, body_has_const, has_const};
@@ -52,7 +53,8 @@ impl Model for TypeTable {
 impl TypeTable {
     /// A table of the basic types alone.
     pub fn new(alloc: Global) -> Result<TypeTable, AllocError>
-        ensures { IfOk result (λ table. table ≡ record { made = basics; functions = []; compounds = []; enumerations = 0 }) }
+        ensures { IfOk result (λ table. table
+            ≡ record { made = basics; functions = []; compounds = []; enumerations = 0 }) }
     {
         let made = Vec::from_slice(alloc, &Made::basics())?;
         Ok(TypeTable {
@@ -266,7 +268,8 @@ impl TypeTable {
     /// None where the type has no layout.
     pub fn size_of(&self, id: TypeId) -> Option<u32>
         requires { id.0 < count_of self.now }
-        ensures { result ≡ option_map (λ (l : Layout). l.size) (layout_of (type_of self.now id) (structures_of self.now)) }
+        ensures { result ≡ option_map (λ (l : Layout). l.size)
+            (layout_of (type_of self.now id) (structures_of self.now)) }
     {
         Some(self.layout(id)?.size)
     }
@@ -276,7 +279,8 @@ impl TypeTable {
     /// None where the type has no layout.
     pub fn align_of(&self, id: TypeId) -> Option<u32>
         requires { id.0 < count_of self.now }
-        ensures { result ≡ option_map (λ (l : Layout). l.align) (layout_of (type_of self.now id) (structures_of self.now)) }
+        ensures { result ≡ option_map (λ (l : Layout). l.align)
+            (layout_of (type_of self.now id) (structures_of self.now)) }
     {
         Some(self.layout(id)?.align)
     }

@@ -3,7 +3,7 @@ use Rattle.std.specs.Prelude.{ℕ, List, codes}
 use Rattle.critical_table.specs.declared.case.Case.{Case}
 use Rattle.critical_table.specs.declared.case.Case.TheVariants.{L1, L2, L3, L4, L5, L6, L7, L8, L9, L10, L11, L12}
 use Rattle.critical_table.specs.declared.code.Code.{Code}
-use Rattle.critical_table.specs.declared.code.Code.TheVariants.{U01, U02, U03, U04, U05, U06, U07, U08, U09, U10, U11, U12}
+use Rattle.critical_table.specs.declared.code.Code.TheVariants as code
 
 -- a critical case: its place in the list of L.3p2, the section that it names, and what is told of it
 pub record CaseRow : Type 0 where
@@ -11,10 +11,13 @@ pub record CaseRow : Type 0 where
   pub section : List ℕ
   pub text : List ℕ
 
+-- the row of each case
 abbrev pub case_row : Case → CaseRow
 case_row L1 = record { number = 1; section = codes "6.2.4"; text = codes "object used outside its lifetime" }
-case_row L2 = record { number = 2; section = codes "6.2.7"; text = codes "store to an object with two incompatible declarations" }
-case_row L3 = record { number = 3; section = codes "6.5.2.2"; text = codes "function called through an incompatible type" }
+case_row L2 =
+    record { number = 2; section = codes "6.2.7"; text = codes "store to an object with two incompatible declarations" }
+case_row L3 =
+    record { number = 3; section = codes "6.5.2.2"; text = codes "function called through an incompatible type" }
 case_row L4 = record { number = 4; section = codes "6.3.2.1"; text = codes "lvalue designates no object" }
 case_row L5 = record { number = 5; section = codes "6.4.5"; text = codes "string literal modified" }
 case_row L6 = record { number = 6; section = codes "6.5.3.2"; text = codes "invalid operand of unary *" }
@@ -30,16 +33,17 @@ pub record CodeRow : Type 0 where
   pub name : List ℕ
   pub text : List ℕ
 
+-- the row of each code
 abbrev pub code_row : Code → CodeRow
-code_row U01 = record { name = codes "U01"; text = codes "signed result out of range" }
-code_row U02 = record { name = codes "U02"; text = codes "division by zero" }
-code_row U03 = record { name = codes "U03"; text = codes "invalid shift" }
-code_row U04 = record { name = codes "U04"; text = codes "value of a call that returned none" }
-code_row U05 = record { name = codes "U05"; text = codes "indeterminate value read" }
-code_row U06 = record { name = codes "U06"; text = codes "pointer moved outside its array" }
-code_row U07 = record { name = codes "U07"; text = codes "difference of unrelated pointers" }
-code_row U08 = record { name = codes "U08"; text = codes "order of unrelated pointers" }
-code_row U09 = record { name = codes "U09"; text = codes "conversion undefined or outside the profile" }
-code_row U10 = record { name = codes "U10"; text = codes "overlapping assignment" }
-code_row U11 = record { name = codes "U11"; text = codes "overlapping copy" }
-code_row U12 = record { name = codes "U12"; text = codes "invalid truth value read" }
+code_row code.U01 = record { name = codes "U01"; text = codes "signed result out of range" }
+code_row code.U02 = record { name = codes "U02"; text = codes "division by zero" }
+code_row code.U03 = record { name = codes "U03"; text = codes "invalid shift" }
+code_row code.U04 = record { name = codes "U04"; text = codes "value of a call that returned none" }
+code_row code.U05 = record { name = codes "U05"; text = codes "indeterminate value read" }
+code_row code.U06 = record { name = codes "U06"; text = codes "pointer moved outside its array" }
+code_row code.U07 = record { name = codes "U07"; text = codes "difference of unrelated pointers" }
+code_row code.U08 = record { name = codes "U08"; text = codes "order of unrelated pointers" }
+code_row code.U09 = record { name = codes "U09"; text = codes "conversion undefined or outside the profile" }
+code_row code.U10 = record { name = codes "U10"; text = codes "overlapping assignment" }
+code_row code.U11 = record { name = codes "U11"; text = codes "overlapping copy" }
+code_row code.U12 = record { name = codes "U12"; text = codes "invalid truth value read" }

@@ -1,3 +1,5 @@
+//! The critical undefined behaviours of L.3p2 as numbered cases.
+
 ghost use Rattle.std.specs.Prelude.{◌≡◌, ◌≤◌, length};
 
 /// A critical undefined behaviour of Annex L: the items of the list in L.3p2, numbered from 1 in its order.

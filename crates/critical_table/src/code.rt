@@ -1,3 +1,5 @@
+//! The undefined behaviours beside the critical ones, as codes.
+
 ghost use Rattle.std.specs.Prelude.{◌≡◌, ◌≤◌, length};
 
 /// An undefined behaviour that is bounded (Annex L), and stops the run.

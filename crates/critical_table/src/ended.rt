@@ -1,3 +1,5 @@
+//! How a command ends.
+
 use crate::case::Case;
 use crate::code::Code;
 use crate::pos::Pos;

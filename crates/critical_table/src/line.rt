@@ -1,3 +1,5 @@
+//! A text of bounded length, which needs no memory from the heap.
+
 ghost use Rattle.std.specs.Prelude.{◌≡◌, ◌+◌, ◌≤◌, [], ◌++◌, length};
 
 use std::marker::Model;

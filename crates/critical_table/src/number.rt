@@ -1,3 +1,5 @@
+//! Numbers in decimal, at the end of a line.
+
 ghost use Rattle.std.specs.Prelude.{◌≡◌, ◌+◌, ◌≤◌, ◌++◌, length, decimal};
 
 use crate::line::Line;

@@ -1,3 +1,5 @@
+//! Why a unit is refused.
+
 /// Why a unit is refused before it runs.
 #[derive(Clone, Copy, Debug, PartialEq, Eq)]
 pub enum Refusal {

@@ -1,3 +1,5 @@
+//! The status and the line by which an end is reported.
+
 ghost use Rattle.std.specs.Prelude.{◌≡◌, ◌+◌, ◌≤◌, [], ◌++◌, codes, length};
 ghost use Rattle.critical_table.specs.declared.ended.Ended.TheVariants.{Trapped, Undefined, Refused};
 ghost use Rattle.critical_table.specs.declared.refusal.Refusal.TheVariants.{Constraint};

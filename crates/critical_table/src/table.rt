@@ -1,3 +1,5 @@
+//! The table of cases and codes, line by line.
+
 ghost use Rattle.std.specs.Prelude.{◌≡◌, ◌+◌, ◌<◌, ◌≤◌, [], Some, length, slice_get};
 ghost use Rattle.critical_table.specs.Table.{table_lines, case_line, code_line};
 
@@ -50,7 +52,7 @@ fn push_code(line: &mut Line, code: Code)
 }
 
 /// The case of the line at the index.
-
+#[tactic(auto, unfolding(crate::specs::Table::table_lines))]
 fn case_at(index: u8) -> Case
     requires { index < 12 }
     ensures { slice_get table_lines index ≡ Some (case_line result) }
@@ -72,7 +74,7 @@ fn case_at(index: u8) -> Case
 }
 
 /// The code of the line that stands so far behind the cases.
-#[tactic(auto, unfolding(crate::specs::Table::table_lines, crate::specs::Table::code_line))]
+#[tactic(auto, unfolding(crate::specs::Table::table_lines))]
 fn code_at(index: u8) -> Code
     requires { index < 12 }
     ensures { slice_get table_lines (index + 12) ≡ Some (code_line result) }

@@ -1,3 +1,5 @@
+//! Each end's status and line, the lines of the table, and names, against texts written by hand.
+
 use super::*;
 use std::collections::HashMap;
 use std::process::Abort;

@@ -1,8 +1,12 @@
+-- Lemmas, by topic.
 pub mod CellLists
 pub mod Counting
 pub mod Found
-pub mod Positions
-pub mod ReachRows
-pub mod RangeLemmas
+pub mod NumberBytes
 pub mod Outside
+pub mod Positions
+pub mod RangeLemmas
+pub mod ReachRows
+pub mod ReadBack
 pub mod SameReach
+pub mod Subranges

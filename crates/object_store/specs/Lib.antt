@@ -1,3 +1,4 @@
+-- The definitions, in the order in which they are read.
 pub mod Object
 pub mod Storage
 pub mod Messages
@@ -5,5 +6,6 @@ pub mod Steps
 pub mod Reach
 pub mod Marks
 pub mod Ranges
-pub mod Load
+pub mod Subranges
 pub mod Changes
+pub mod Load

@@ -4,7 +4,7 @@ use Rattle.object_store.specs.declared.pointer.Pointer.{Pointer}
 use Rattle.object_store.specs.Object.{Object, place_of, object_of}
 
 -- the object of the range, and that it has all the bytes
-pub record InRange (objects : List Object) (place : Pointer) (len : ℕ) : Type 0 where
+pub record IsLiveRange (objects : List Object) (place : Pointer) (len : ℕ) : Type 0 where
   pub object : Object
   pub at : slice_get objects (place_of place.object) ≡ Some object
   pub own : object_of objects place.object ≡ Some object

@@ -1,5 +1,6 @@
 -- Whether an access reaches its range, or which critical case it is (L.3p2).
-use Rattle.std.specs.Prelude.{◌≡◌, ℕ, ◌+◌, ◌%◌, ◌==◌, nat_lt, Bool, true, false, not, ◌&&◌, ◌||◌, List, [], ◌∷◌, length, Option, Some, None, is_none, IsTrue, Result, MatchResult, if◌then◌else◌}
+use Rattle.std.specs.Prelude.{◌≡◌, ℕ, ◌+◌, ◌%◌, ◌==◌, nat_lt, Bool, true, false, not, ◌&&◌, ◌||◌, List, [], ◌∷◌}
+use Rattle.std.specs.Prelude.{length, Option, Some, None, is_none, IsTrue, Result, MatchResult, if◌then◌else◌}
 use Rattle.std.specs.Option.{option_map_or, option_or}
 use Rattle.std.specs.List.{list_any}
 use Rattle.critical_table.specs.declared.case.Case.{Case}
@@ -8,7 +9,8 @@ use Rattle.object_store.specs.declared.mark.Mark.{Mark}
 use Rattle.object_store.specs.declared.mark.Mark.TheVariants.{Literal, Const, Clash}
 use Rattle.object_store.specs.declared.cell.Cell.{Cell}
 use Rattle.object_store.specs.declared.by.By.{By}
-use Rattle.object_store.specs.declared.by.By.TheVariants.{Star, Arrow, Store, TextRead, TextWrite, OtherRead, OtherWrite}
+use Rattle.object_store.specs.declared.by.By.TheVariants.{Star, Arrow, Store, TextRead, TextWrite, OtherRead}
+use Rattle.object_store.specs.declared.by.By.TheVariants.{OtherWrite}
 use Rattle.object_store.specs.declared.pointer.Pointer.{Pointer}
 use Rattle.object_store.specs.Object.{Object, object_of}
 use Rattle.object_store.specs.Storage.{Storage}
@@ -21,6 +23,7 @@ pub record Access : Type 0 where
   pub len : ℕ
   pub align : ℕ
 
+-- the cells of the object, or none
 abbrev pub cells : Access → List Cell
 cells a = option_map_or (λ o. o.cells) a.object []
 
@@ -28,6 +31,7 @@ cells a = option_map_or (λ o. o.cells) a.object []
 abbrev pub is_no_object : Access → Bool
 is_no_object a = is_none a.object
 
+-- the lifetime of the object ended
 abbrev pub is_dead : Access → Bool
 is_dead a = option_map_or (λ o. not o.live) a.object false
 
@@ -35,6 +39,7 @@ is_dead a = option_map_or (λ o. not o.live) a.object false
 abbrev pub is_dead_even : Access → Bool
 is_dead_even a = is_dead a && (a.place.object % 2 == 0)
 
+-- the same of an allocated object
 abbrev pub is_dead_odd : Access → Bool
 is_dead_odd a = is_dead a && (a.place.object % 2 == 1)
 
@@ -50,9 +55,11 @@ is_at_end a = (a.place.offset == a.place.high) && nat_lt 0 a.len
 abbrev pub is_outside : Access → Bool
 is_outside a = nat_lt a.place.offset a.place.low || nat_lt a.place.high (a.place.offset + a.len)
 
+-- the offset is no multiple of the alignment
 abbrev pub is_misaligned : Access → Bool
 is_misaligned a = not (a.place.offset % a.align == 0)
 
+-- tests of marks
 abbrev pub is_clash : Mark → Bool
 is_clash Clash = true
 is_clash _ = false
@@ -74,6 +81,7 @@ pub record Row : Type 0 where
   pub situation : Access → Bool
   pub column : By → Option Case
 
+-- the cases of a row, one for each kind of access
 abbrev pub columns : (star arrow store text_read text_write other_read other_write : Option Case) → By → Option Case
 columns star arrow store text_read text_write other_read other_write Star = star
 columns star arrow store text_read text_write other_read other_write Arrow = arrow
@@ -83,6 +91,7 @@ columns star arrow store text_read text_write other_read other_write TextWrite =
 columns star arrow store text_read text_write other_read other_write OtherRead = other_read
 columns star arrow store text_read text_write other_read other_write OtherWrite = other_write
 
+-- the same case in each column
 abbrev pub all : Case → By → Option Case
 all case by = Some case
 
@@ -90,13 +99,28 @@ all case by = Some case
 -- memory functions; read and written by another library row.
 unfoldable pub reach_table : List Row
 reach_table =
-    record { situation = is_no_object; column = columns (Some L6) (Some L4) (Some L6) (Some L9) (Some L9) (Some L9) (Some L9) }
+    record {
+      situation = is_no_object;
+      column = columns (Some L6) (Some L4) (Some L6) (Some L9) (Some L9) (Some L9) (Some L9);
+    }
     ∷ record { situation = is_dead_even; column = all L1 }
     ∷ record { situation = is_dead_odd; column = all L11 }
-    ∷ record { situation = has_wrong_bounds; column = columns (Some L6) (Some L4) (Some L6) (Some L9) (Some L9) (Some L9) (Some L9) }
-    ∷ record { situation = is_at_end; column = columns (Some L7) (Some L4) (Some L7) (Some L12) (Some L12) (Some L9) (Some L9) }
-    ∷ record { situation = is_outside; column = columns (Some L6) (Some L4) (Some L6) (Some L12) (Some L12) (Some L9) (Some L9) }
-    ∷ record { situation = is_misaligned; column = columns (Some L6) (Some L4) (Some L6) (Some L9) (Some L9) (Some L9) (Some L9) }
+    ∷ record {
+      situation = has_wrong_bounds;
+      column = columns (Some L6) (Some L4) (Some L6) (Some L9) (Some L9) (Some L9) (Some L9);
+    }
+    ∷ record {
+      situation = is_at_end;
+      column = columns (Some L7) (Some L4) (Some L7) (Some L12) (Some L12) (Some L9) (Some L9);
+    }
+    ∷ record {
+      situation = is_outside;
+      column = columns (Some L6) (Some L4) (Some L6) (Some L12) (Some L12) (Some L9) (Some L9);
+    }
+    ∷ record {
+      situation = is_misaligned;
+      column = columns (Some L6) (Some L4) (Some L6) (Some L9) (Some L9) (Some L9) (Some L9);
+    }
     ∷ record { situation = has_mark is_clash; column = columns None None (Some L2) None (Some L2) None (Some L2) }
     ∷ record { situation = has_mark is_literal; column = columns None None (Some L5) None (Some L5) None (Some L5) }
     ∷ record { situation = has_mark is_const; column = columns None None (Some L8) None (Some L8) None (Some L8) }

@@ -1,5 +1,6 @@
 -- What each operation makes of the store.
-use Rattle.std.specs.Prelude.{ℕ, ◌+◌, ◌-◌, ◌==◌, Bool, true, false, List, [], ◌∷◌, ◌++◌, Option, Some, None, length, take, drop, map, replicate, slice_get, slice_set}
+use Rattle.std.specs.Prelude.{ℕ, ◌+◌, ◌-◌, ◌==◌, Bool, true, false, List, [], ◌∷◌, ◌++◌, Option, Some, None, length}
+use Rattle.std.specs.Prelude.{take, drop, map, replicate, slice_get, slice_set}
 use Rattle.std.specs.Option.{option_map_or}
 use Rattle.object_store.specs.declared.class.Class.{Class}
 use Rattle.object_store.specs.declared.mark.Mark.{Mark}
@@ -26,13 +27,13 @@ abbrev pub with_new : Storage → ℕ → Class → Storage
 with_new s size class = record s { objects = s.objects ++ new_object size class ∷ [] }
 
 -- the object with this number is changed
-abbrev pub changed : List Object → ℕ → (Object → Object) → List Object
-changed objects number change =
+abbrev pub update : List Object → ℕ → (Object → Object) → List Object
+update objects number change =
     option_map_or (λ o. slice_set objects (place_of number) (change o)) (slice_get objects (place_of number)) objects
 
 -- the lifetime of the object ends
 abbrev pub with_dead : Storage → ℕ → Storage
-with_dead s number = record s { objects = changed s.objects number (λ o. record o { live = false }) }
+with_dead s number = record s { objects = update s.objects number (λ o. record o { live = false }) }
 
 -- the cells from a place on are replaced by as many others
 abbrev pub with_cells : List Cell → ℕ → List Cell → List Cell
@@ -43,14 +44,14 @@ abbrev pub range : List Cell → ℕ → ℕ → List Cell
 range cells at len = take len (drop at cells)
 
 -- a cell gets a mark
-abbrev pub marked : Mark → Cell → Cell
-marked mark c = record c { mark = mark }
+abbrev pub mark_cell : Mark → Cell → Cell
+mark_cell mark c = record c { mark = mark }
 
 -- the cells of a range get a mark
 abbrev pub with_mark : Storage → ℕ → ℕ → ℕ → Mark → Storage
 with_mark s number at len mark = record s {
-  objects = changed s.objects number
-      (λ o. record o { cells = with_cells o.cells at (map (marked mark) (range o.cells at len)) });
+  objects = update s.objects number
+      (λ o. record o { cells = with_cells o.cells at (map (mark_cell mark) (range o.cells at len)) });
 }
 
 -- a call is entered, and left
@@ -68,19 +69,20 @@ cells_of objects number = option_map_or (λ o. o.cells) (object_of objects numbe
 abbrev pub bytes_in : List Object → Pointer → ℕ → List (Option ℕ)
 bytes_in objects place len = map (λ c. c.byte) (range (cells_of objects place.object) place.offset len)
 
+-- the same in a store
 abbrev pub bytes_at : Storage → Pointer → ℕ → List (Option ℕ)
 bytes_at s place len = bytes_in s.objects place len
 
 -- the cells from the pointer's place on are replaced by cells with these bytes
-abbrev pub written : List Object → Pointer → List (Option ℕ) → List Object
-written objects place bytes = changed objects place.object
+abbrev pub with_bytes : List Object → Pointer → List (Option ℕ) → List Object
+with_bytes objects place bytes = update objects place.object
     (λ o. record o { cells = with_cells o.cells place.offset (map stored_cell bytes) })
 
 -- A store: the cells of the range are replaced, and the store is noted. One of no bytes changes nothing, and is none.
-unfoldable pub stored : Storage → Pointer → List (Option ℕ) → Storage
-stored s place [] = s
-stored s place (b ∷ bytes) = record s {
-  objects = written s.objects place (b ∷ bytes);
+unfoldable pub with_store : Storage → Pointer → List (Option ℕ) → Storage
+with_store s place [] = s
+with_store s place (b ∷ bytes) = record s {
+  objects = with_bytes s.objects place (b ∷ bytes);
   writes = s.writes ++ record { object = place.object; at = place.offset; len = length (b ∷ bytes) } ∷ [];
 }
 
@@ -88,3 +90,8 @@ stored s place (b ∷ bytes) = record s {
 abbrev pub is_null : Option ℕ → Bool
 is_null None = false
 is_null (Some b) = b == 0
+
+-- whether a byte is 0, or indeterminate: a text ends there, or can't be read on
+abbrev pub is_text_end : Option ℕ → Bool
+is_text_end None = true
+is_text_end (Some b) = b == 0

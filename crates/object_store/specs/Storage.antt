@@ -1,5 +1,7 @@
 -- The store: all objects that were ever made, and what they use of the budget of bytes.
-use Rattle.std.specs.Prelude.{◌≡◌, ℕ, ◌+◌, ◌-◌, ◌*◌, ◌<◌, ◌≤◌, Bool, false, List, nat_le, length, drop, sum_by, if◌then◌else◌}
+use Rattle.std.specs.Prelude.{◌≡◌, ℕ, ◌+◌, ◌-◌, ◌*◌, ◌<◌, ◌≤◌, Bool, false, List, nat_le, length, drop, sum_by}
+use Rattle.std.specs.Prelude.{if◌then◌else◌}
+use Rattle.std.specs.List.{All}
 use Rattle.std.specs.Option.{option_map_or}
 use Rattle.object_store.specs.declared.writes.Write.{Write}
 use Rattle.object_store.specs.Object.{Object, object_of}
@@ -23,19 +25,25 @@ abbrev pub live_size : Object → ℕ
 live_size object = if object.live then length object.cells else 0
 
 -- the sizes of all live objects but the message object, and 256 for each open call
-abbrev pub counted : List Object → ℕ → ℕ
-counted objects open_calls = sum_by live_size (drop 1 objects) + 256 * open_calls
+abbrev pub live_sum : List Object → ℕ → ℕ
+live_sum objects open_calls = sum_by live_size (drop 1 objects) + 256 * open_calls
 
+-- how many bytes are live in the store
 unfoldable pub live_bytes : Storage → ℕ
-live_bytes s = counted s.objects s.open_calls
+live_bytes s = live_sum s.objects s.open_calls
 
 -- whether so many bytes more stay within the budget, once so many are given back
 abbrev pub fits : Storage → ℕ → ℕ → Bool
 fits s released size = nat_le (live_bytes s - released + size) s.budget
 
--- what is true of the count of a store's bytes
-pub record IsCounted (objects : List Object) (budget live open_calls : ℕ) : Type 0 where
+-- no object has more bytes
+abbrev pub largest_size : ℕ
+largest_size = 16777216
+
+-- what is true of a store: of its list of objects, of their sizes, and of the count of live bytes
+pub record IsConsistent (objects : List Object) (budget live open_calls : ℕ) : Type 0 where
   pub messages : 0 < length objects
   pub few : length objects ≤ 2004194305
-  pub sum : live ≡ counted objects open_calls
+  pub sizes : All (λ (o : Object). length o.cells ≤ largest_size) objects
+  pub sum : live ≡ live_sum objects open_calls
   pub within : live ≤ budget

@@ -1,3 +1,4 @@
+//! The kinds of accesses, and the case of each where an access fails.
 use critical_table::Case;
 
 /// The kind of an access: a column of the table of reaches.

@@ -1,3 +1,4 @@
+//! A byte of an object.
 ghost use Rattle.std.specs.Prelude.{◌≡◌};
 
 use crate::mark::Mark;
@@ -5,7 +6,9 @@ use crate::mark::Mark;
 /// One byte of an object: its value, or none where it is indeterminate (3.19.2), and its mark.
 #[derive(Clone, Copy, Debug, PartialEq, Eq)]
 pub struct Cell {
+    /// Its value; `None` where it is indeterminate.
     pub byte: Option<u8>,
+    /// Whether it may be stored to.
     pub mark: Mark,
 }
 

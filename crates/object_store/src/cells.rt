@@ -1,5 +1,6 @@
+//! Stores to ranges of cells.
 ghost use Rattle.std.specs.Prelude.{◌≡◌, ◌+◌, ◌≤◌, ◌<◌, Some, length, map, replicate};
-ghost use Rattle.object_store.specs.Steps.{with_cells, range, stored_cell, marked};
+ghost use Rattle.object_store.specs.Steps.{with_cells, range, stored_cell, mark_cell};
 
 use crate::cell::Cell;
 use crate::mark::Mark;
@@ -27,7 +28,7 @@ pub(crate) fn fill_byte(cells: &mut [Cell], at: usize, len: usize, byte: u8)
 /// Gives the cells of a range a mark.
 pub(crate) fn mark_cells(cells: &mut [Cell], at: usize, len: usize, mark: Mark)
     requires { at + len ≤ length cells.old }
-    ensures { cells.new ≡ with_cells cells.old at (map (marked mark) (range cells.old at len)) }
+    ensures { cells.new ≡ with_cells cells.old at (map (mark_cell mark) (range cells.old at len)) }
 {
     for i in 0..len {
         let cell = &mut cells[at + i];

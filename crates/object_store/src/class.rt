@@ -1,3 +1,5 @@
+//! How long an object lives.
+
 /// How an object is stored (6.2.4).
 #[derive(Clone, Copy, Debug, PartialEq, Eq)]
 pub enum Class {

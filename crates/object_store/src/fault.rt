@@ -1,3 +1,4 @@
+//! Why no object was made, or no call was entered.
 use std::alloc::AllocError;
 use thiserror::Error;
 

@@ -1,3 +1,5 @@
+//! Why a byte may not be stored to.
+
 /// Whether a byte of an object may be stored to, and if not, why.
 #[derive(Clone, Copy, Debug, PartialEq, Eq)]
 pub enum Mark {

@@ -1,3 +1,4 @@
+//! The message object.
 ghost use Rattle.std.specs.Prelude.{◌≡◌, IfOk, map};
 ghost use Rattle.object_store.specs.Messages.{message_object, literal_cell};
 
@@ -9,7 +10,8 @@ use std::alloc::{AllocError, Global};
 
 /// The texts that a handler of runtime-constraints is told, each with its null.
 const MESSAGES: [u8; 131] =
-    *b"null pointer\0size above RSIZE_MAX\0size is zero\0does not fit\0destination not ended\0objects overlap\0token not ended\0size is not zero\0";
+    *b"null pointer\0size above RSIZE_MAX\0size is zero\0does not fit\0destination not ended\0\
+       objects overlap\0token not ended\0size is not zero\0";
 
 /// The object of these texts, sealed as a string literal is.
 pub(crate) fn messages(alloc: Global) -> Result<Slot, AllocError>

@@ -1,8 +1,8 @@
 //! What is read and stored in ranges of the listed objects.
 ghost use Rattle.std.specs.Prelude.{◌≡◌, ◌≢◌, ◌+◌, ◌<◌, ◌≤◌, [], Some, length, map, replicate, slice_get, slice_set};
 ghost use Rattle.object_store.specs.Object.{Object, place_of};
-ghost use Rattle.object_store.specs.Ranges.{InRange};
-ghost use Rattle.object_store.specs.Steps.{range, cells_of, bytes_in, written, with_cells, stored_cell};
+ghost use Rattle.object_store.specs.Ranges.{IsLiveRange};
+ghost use Rattle.object_store.specs.Steps.{range, cells_of, bytes_in, with_bytes, with_cells, stored_cell};
 
 use crate::cell::Cell;
 use crate::cells::copy_bytes;
@@ -13,7 +13,7 @@ use std::mem;
 
 /// The cells of a range.
 pub(crate) fn cells_at(slots: &Vec<Slot>, place: Pointer, len: u32) -> &[Cell]
-    requires { InRange slots.now.items place len }
+    requires { IsLiveRange slots.now.items place len }
     ensures { result.now ≡ range (cells_of slots.now.items place.object) place.offset len }
 {
     let at = place.offset as usize;
@@ -23,8 +23,8 @@ pub(crate) fn cells_at(slots: &Vec<Slot>, place: Pointer, len: u32) -> &[Cell]
 
 /// Stores the bytes in a range.
 pub(crate) fn put_at(slots: &mut Vec<Slot>, place: Pointer, bytes: &[u8])
-    requires { InRange slots.old.items place (length bytes.now) }
-    ensures { slots.new.items ≡ written slots.old.items place (map Some bytes.now) }
+    requires { IsLiveRange slots.old.items place (length bytes.now) }
+    ensures { slots.new.items ≡ with_bytes slots.old.items place (map Some bytes.now) }
 {
     let slot = &mut slots[index_of(place.object)];
     slot.put(place.offset as usize, bytes);
@@ -32,8 +32,8 @@ pub(crate) fn put_at(slots: &mut Vec<Slot>, place: Pointer, bytes: &[u8])
 
 /// Stores one byte everywhere in a range.
 pub(crate) fn fill_at(slots: &mut Vec<Slot>, place: Pointer, len: u32, byte: u8)
-    requires { InRange slots.old.items place len }
-    ensures { slots.new.items ≡ written slots.old.items place (replicate len (Some byte)) }
+    requires { IsLiveRange slots.old.items place len }
+    ensures { slots.new.items ≡ with_bytes slots.old.items place (replicate len (Some byte)) }
 {
     let slot = &mut slots[index_of(place.object)];
     slot.fill(place.offset as usize, len as usize, byte);
@@ -41,9 +41,9 @@ pub(crate) fn fill_at(slots: &mut Vec<Slot>, place: Pointer, len: u32, byte: u8)
 
 /// Stores the bytes of one range in another.
 pub(crate) fn copy_at(slots: &mut Vec<Slot>, alloc: Global, to: Pointer, from: Pointer, len: u32)
-    requires to { InRange slots.old.items to len }
-    requires from { InRange slots.old.items from len }
-    ensures { slots.new.items ≡ written slots.old.items to (bytes_in slots.old.items from len) }
+    requires to { IsLiveRange slots.old.items to len }
+    requires from { IsLiveRange slots.old.items from len }
+    ensures { slots.new.items ≡ with_bytes slots.old.items to (bytes_in slots.old.items from len) }
 {
     if index_of(to.object) == index_of(from.object) {
         shift_at(slots, to, from, len);
@@ -54,9 +54,9 @@ pub(crate) fn copy_at(slots: &mut Vec<Slot>, alloc: Global, to: Pointer, from: P
 
 fn shift_at(slots: &mut Vec<Slot>, to: Pointer, from: Pointer, len: u32)
     requires same { place_of to.object ≡ place_of from.object }
-    requires to { InRange slots.old.items to len }
-    requires from { InRange slots.old.items from len }
-    ensures { slots.new.items ≡ written slots.old.items to (bytes_in slots.old.items from len) }
+    requires to { IsLiveRange slots.old.items to len }
+    requires from { IsLiveRange slots.old.items from len }
+    ensures { slots.new.items ≡ with_bytes slots.old.items to (bytes_in slots.old.items from len) }
 {
     let slot = &mut slots[index_of(to.object)];
     slot.shift(to.offset as usize, from.offset as usize, len as usize);
@@ -65,9 +65,9 @@ fn shift_at(slots: &mut Vec<Slot>, to: Pointer, from: Pointer, len: u32)
 /// The cells of the object that is stored to are out of the list meanwhile.
 fn copy_between(slots: &mut Vec<Slot>, alloc: Global, to: Pointer, from: Pointer, len: u32)
     requires other { place_of to.object ≢ place_of from.object }
-    requires to { InRange slots.old.items to len }
-    requires from { InRange slots.old.items from len }
-    ensures { slots.new.items ≡ written slots.old.items to (bytes_in slots.old.items from len) }
+    requires to { IsLiveRange slots.old.items to len }
+    requires from { IsLiveRange slots.old.items from len }
+    ensures { slots.new.items ≡ with_bytes slots.old.items to (bytes_in slots.old.items from len) }
 {
     let index = index_of(to.object);
     let mut cells = take_cells(slots, alloc, index);

@@ -1,5 +1,5 @@
 //! The tests of an access, in the order of the table of reaches.
-ghost use Rattle.std.specs.Prelude.{◌≡◌, ◌+◌, ◌≤◌, ◌==◌, ◌%◌, ◌&&◌, ◌||◌, not, nat_lt, Some, drop};
+ghost use Rattle.std.specs.Prelude.{◌≡◌, ◌+◌, ◌≤◌, ◌==◌, ◌%◌, ◌&&◌, ◌||◌, not, nat_lt, length, Some, OnOk, drop};
 ghost use Rattle.std.specs.List.{list_any};
 ghost use Rattle.object_store.specs.Reach.{Tells, first_case, reach_table, is_clash, is_literal, is_const};
 ghost use Rattle.object_store.specs.Marks.{marked_case};
@@ -15,12 +15,13 @@ impl Slot {
     /// Answers the case that an access to the object is, or that the access reaches its range.
     #[tactic(auto, unfolding(crate::specs::Reach::reach_table))]
     pub(crate) fn reach(&self, place: Pointer, len: u32, align: u32, by: By) -> Result<(), Case>
-        ensures { Tells result (first_case reach_table (record {
+        ensures table { Tells result (first_case reach_table (record {
           object = Some self.now;
           place = place;
           len = len;
           align = align;
         }) by) }
+        ensures within { OnOk result (len ≤ length self.now.cells) }
     {
         if !self.live {
             return Err(if place.object % 2 == 0 {
@@ -32,14 +33,16 @@ impl Slot {
         self.reach_bounds(place, len, align, by)
     }
 
+    /// The same of a live object: the rows that come behind those of its lifetime.
     #[tactic(auto, unfolding(crate::specs::Reach::reach_table))]
     fn reach_bounds(&self, place: Pointer, len: u32, align: u32, by: By) -> Result<(), Case>
-        ensures { Tells result (first_case (drop 3 reach_table) (record {
+        ensures table { Tells result (first_case (drop 3 reach_table) (record {
           object = Some self.now;
           place = place;
           len = len;
           align = align;
         }) by) }
+        ensures within { OnOk result (len ≤ length self.now.cells) }
     {
         if has_wrong_bounds(place, self.size()) {
             return Err(by.invalid());

@@ -1,3 +1,4 @@
+//! An object as the store holds it.
 ghost use Rattle.std.specs.Prelude.{◌≡◌, ◌+◌, ◌≤◌, ◌<◌, true, false, Some, IfOk, length, map, replicate};
 ghost use Rattle.object_store.specs.Object.{place_of};
 
@@ -27,7 +28,7 @@ impl Model for Slot {
 impl Slot {
     ghost use Rattle.object_store.specs.Object.{Object, number_of};
     ghost use Rattle.object_store.specs.Messages.{message_object};
-    ghost use Rattle.object_store.specs.Steps.{new_object, with_cells, range, stored_cell, marked};
+    ghost use Rattle.object_store.specs.Steps.{new_object, with_cells, range, stored_cell, mark_cell};
 
     /// A new object, whose bytes are indeterminate.
     pub(crate) fn new(alloc: Global, size: u32, class: Class) -> Result<Slot, AllocError>
@@ -71,7 +72,7 @@ impl Slot {
         requires { at + len ≤ length self.old.cells }
         ensures { self.new ≡ record self.old {
           cells
-              = with_cells self.old.cells at (map (marked mark) (range self.old.cells at len));
+              = with_cells self.old.cells at (map (mark_cell mark) (range self.old.cells at len));
         } }
     {
         mark_cells(&mut self.cells, at, len, mark);

@@ -1,8 +1,11 @@
-ghost use Rattle.std.specs.Prelude.{◌≡◌, ◌+◌, ◌-◌, ◌*◌, ◌<◌, ◌≤◌, ◌↔◌, [], Some, None, IfOk, IsErr, IsErrOf, OnOk, OnErr, IsTrue, option_copied, length, map, replicate};
+//! The store: the objects of a run, within a budget of bytes.
+ghost use Rattle.std.specs.Prelude.{◌≡◌, ◌+◌, ◌-◌, ◌*◌, ◌<◌, ◌≤◌, ◌↔◌, [], Some, None, IfOk, IfSome, IsErr, IsErrOf};
+ghost use Rattle.std.specs.Prelude.{OnOk, OnErr, IsTrue, option_copied, length, map, replicate};
 
 use crate::by::By;
 use crate::class::Class;
 use crate::fault::{MakeFault, OverBytes};
+use crate::integers::write_integer;
 use crate::mark::Mark;
 use crate::messages::messages;
 use crate::pointer::Pointer;
@@ -10,13 +13,15 @@ use crate::ranges::{cells_at, copy_at, fill_at, put_at};
 use crate::slot::{Slot, index_of};
 use crate::view::View;
 use crate::writes::{Write, Writes};
+use acc_num::{IntKind, bytes};
 use critical_table::Case;
 use std::alloc::{AllocError, Global};
 use std::marker::Model;
 use std::mem;
 
 /// The objects of a run, within a budget of bytes. Contracts see all objects that were ever made, in order, with their
-/// cells, the budget, the number of open calls, and the stores since they were last taken.
+/// cells, the budget, the number of open calls, and the stores since they were last taken. No object has more than
+/// 16,777,216 bytes.
 #[derive(Drop)]
 pub struct Store {
     alloc: Global,
@@ -28,7 +33,7 @@ pub struct Store {
 }
 
 impl Model for Store {
-    ghost use Rattle.object_store.specs.Storage.{Storage, IsCounted};
+    ghost use Rattle.object_store.specs.Storage.{Storage, IsConsistent};
 
     ghost Value = { Storage };
 
@@ -39,18 +44,22 @@ impl Model for Store {
       writes = store.writes;
     } };
 
-    ghost invariant = { λ store. IsCounted store.slots.items store.budget store.live store.open_calls };
+    ghost invariant = { λ store. IsConsistent store.slots.items store.budget store.live store.open_calls };
 }
 
 impl Store {
     ghost use Rattle.object_store.specs.Object.{number_of, place_of, object_of};
-    ghost use Rattle.object_store.specs.Storage.{is_live, live_bytes, fits};
+    ghost use Rattle.object_store.specs.Storage.{is_live, live_bytes, fits, largest_size};
     ghost use Rattle.object_store.specs.Reach.{Tells, reach, stores, IsReached, IsReachedToStore};
+    ghost use Rattle.acc_num.specs.Kinds.{bytes_of};
+    ghost use Rattle.acc_num.specs.Numbers.{InRange};
+    ghost use Rattle.object_store.specs.Load.{integer_bytes, pointer_bytes};
     ghost use Rattle.object_store.specs.Changes.{ChangesOnly, SameReach};
     ghost use Rattle.object_store.specs.Messages.{fresh_store};
-    ghost use Rattle.object_store.specs.Steps.{next_number, new_object, with_new, with_dead, with_mark, with_call, without_call, cells_of, bytes_at, stored};
+    ghost use Rattle.object_store.specs.Steps.{next_number, new_object, with_new, with_dead, with_mark};
+    ghost use Rattle.object_store.specs.Steps.{with_call, without_call, cells_of, bytes_at, with_store};
 
-    /// A store with this budget, that holds the message object alone.
+    /// A store with this budget of bytes, that holds the message object alone.
     pub fn new(alloc: Global, bytes: u64) -> Result<Store, AllocError>
         ensures { IfOk result (λ store. store ≡ fresh_store bytes) }
     {
@@ -66,12 +75,14 @@ impl Store {
         })
     }
 
-    /// Makes an object and answers its number. Its bytes are indeterminate and may be stored to.
+    /// Makes an object of 1 to 16,777,216 bytes and answers its number. Its bytes are indeterminate (6.2.4p6, 7.22.3.4)
+    /// and may be stored to.
     ///
-    /// `OverBytes` comes exactly where the live bytes and the size pass the budget. After a fault the store is as before.
+    /// `OverBytes` comes exactly where the live bytes and the size pass the budget, and `Memory` where there was none.
+    /// After a fault the store is as before.
     #[tactic(auto, using(crate::proofs::Found::new_found), unfolding(crate::specs::Storage::live_bytes))]
     pub fn make(&mut self, size: u32, class: Class) -> Result<u32, MakeFault>
-        requires size { (0 < size) × (size ≤ 16777216) }
+        requires size { (0 < size) × (size ≤ largest_size) }
         requires few { length self.old.objects < 2004194305 }
         ensures made { OnOk result (self.new ≡ with_new self.old size class) }
         ensures number { IfOk result (λ number. number ≡ next_number self.old class) }
@@ -91,7 +102,7 @@ impl Store {
         Ok(number)
     }
 
-    /// Ends the lifetime of a live object.
+    /// Ends the lifetime of a live object (6.2.4p2).
     #[tactic(auto, unfolding(crate::specs::Storage::live_bytes))]
     pub fn kill(&mut self, object: u32)
         requires { IsTrue (is_live self.old object) }
@@ -106,7 +117,7 @@ impl Store {
         }
     }
 
-    /// Gives the bytes of a range of a live object a mark.
+    /// Gives the bytes of a range of a live object a mark, which stops stores to them.
     pub fn seal(&mut self, object: u32, at: u32, len: u32, mark: Mark)
         requires live { IsTrue (is_live self.old object) }
         requires range { at + len ≤ length (cells_of self.old.objects object) }
@@ -170,13 +181,14 @@ impl Store {
         size <= self.budget - self.live.saturating_sub(released)
     }
 
-    /// Answers the critical case of Annex L that an access is, or that it reaches its range: the first row of the table of
-    /// reaches that holds, in the column of `by`.
+    /// Answers the critical case of Annex L that an access is, or that it reaches its range of `len` bytes: the first
+    /// row of the table of reaches that holds, in the column of `by` (L.3p2).
     #[tactic(auto, unfolding(crate::specs::Reach::reach_table))]
     pub fn reach(&self, place: Pointer, len: u32, align: u32, by: By) -> Result<(), Case>
         ensures table { Tells result (reach self.now place len align by) }
         ensures reached { OnOk result (IsReached self.now place len) }
         ensures stores { OnOk result (IsTrue (stores by) → IsReachedToStore self.now place len) }
+        ensures len { OnOk result (len ≤ largest_size) }
     {
         match self.find(place.object) {
             Some(slot) => slot.reach(place, len, align, by),
@@ -197,7 +209,7 @@ impl Store {
     pub fn put(&mut self, place: Pointer, bytes: &[u8])
         requires reached { IsReachedToStore self.old place (length bytes.now) }
         requires room { 0 < length bytes.now → length self.old.writes < 4 }
-        ensures stored { self.new ≡ stored self.old place (map Some bytes.now) }
+        ensures stored { self.new ≡ with_store self.old place (map Some bytes.now) }
         ensures alone { ChangesOnly self.old self.new place (length bytes.now) }
         ensures reach { SameReach self.old self.new }
         ensures noted { length self.new.writes ≤ length self.old.writes + 1 }
@@ -213,11 +225,39 @@ impl Store {
         });
     }
 
+    /// Stores an integer of the kind in a range that was reached by an access that stores.
+    pub fn put_integer(&mut self, place: Pointer, kind: IntKind, value: i128)
+        requires reached { IsReachedToStore self.old place (bytes_of kind) }
+        requires in_range { InRange kind value }
+        requires room { length self.old.writes < 4 }
+        ensures stored { self.new ≡ with_store self.old place (map Some (integer_bytes kind value)) }
+        ensures alone { ChangesOnly self.old self.new place (bytes_of kind) }
+        ensures reach { SameReach self.old self.new }
+        ensures noted { length self.new.writes ≤ length self.old.writes + 1 }
+    {
+        let mut room = [0; 8];
+        let part = &mut room[..bytes(kind) as usize];
+        write_integer(part, kind, value);
+        self.put(place, part);
+    }
+
+    /// Stores a pointer in a range of sixteen bytes that was reached by an access that stores.
+    pub fn put_pointer(&mut self, place: Pointer, pointer: Pointer)
+        requires reached { IsReachedToStore self.old place 16 }
+        requires room { length self.old.writes < 4 }
+        ensures stored { self.new ≡ with_store self.old place (map Some (pointer_bytes pointer)) }
+        ensures alone { ChangesOnly self.old self.new place 16 }
+        ensures reach { SameReach self.old self.new }
+        ensures noted { length self.new.writes ≤ length self.old.writes + 1 }
+    {
+        self.put(place, &pointer.bytes());
+    }
+
     /// Stores one byte everywhere in a range that was reached by an access that stores.
     pub fn fill(&mut self, place: Pointer, len: u32, byte: u8)
         requires reached { IsReachedToStore self.old place len }
         requires room { 0 < len → length self.old.writes < 4 }
-        ensures stored { self.new ≡ stored self.old place (replicate len (Some byte)) }
+        ensures stored { self.new ≡ with_store self.old place (replicate len (Some byte)) }
         ensures alone { ChangesOnly self.old self.new place len }
         ensures reach { SameReach self.old self.new }
         ensures noted { length self.new.writes ≤ length self.old.writes + 1 }
@@ -238,7 +278,7 @@ impl Store {
         requires to { IsReachedToStore self.old to len }
         requires from { IsReached self.old from len }
         requires room { 0 < len → length self.old.writes < 4 }
-        ensures stored { self.new ≡ stored self.old to (bytes_at self.old from len) }
+        ensures stored { self.new ≡ with_store self.old to (bytes_at self.old from len) }
         ensures alone { ChangesOnly self.old self.new to len }
         ensures reach { SameReach self.old self.new }
         ensures noted { length self.new.writes ≤ length self.old.writes + 1 }
@@ -264,7 +304,8 @@ impl Store {
 
     /// The object with this number.
     fn find(&self, object: u32) -> Option<&Slot>
-        ensures { option_copied result ≡ object_of self.now.objects object }
+        ensures found { option_copied result ≡ object_of self.now.objects object }
+        ensures size { IfSome (option_copied result) (λ o. length o.cells ≤ largest_size) }
     {
         let index = index_of(object);
         let slot = self.slots.get(index)?;

@@ -1,13 +1,14 @@
+//! Reaches by the table, stores, and the count of bytes.
 ghost use Rattle.std.specs.Prelude.{◌≡◌, ◌+◌, ◌<◌, ◌≤◌, length};
 
 use super::*;
-use critical_table::{Case, Code};
+use critical_table::Case;
 use std::alloc::Global;
 use std::process::Abort;
 use std::test::Fail;
 
 /// A pointer to a byte of an object, with the object's bounds.
-fn pointer(object: u32, offset: u32, size: u32) -> Pointer {
+pub(crate) fn pointer(object: u32, offset: u32, size: u32) -> Pointer {
     Pointer {
         object,
         offset,
@@ -16,13 +17,15 @@ fn pointer(object: u32, offset: u32, size: u32) -> Pointer {
     }
 }
 
-fn put(rt: &impl Abort, store: &mut Store, place: Pointer, bytes: &[u8]) {
+/// Stores bytes in a range that has to be reached.
+pub(crate) fn put(rt: &impl Abort, store: &mut Store, place: Pointer, bytes: &[u8]) {
     let _ = store.taken();
     let len = u32::try_from(bytes.len()).expect(rt, "a short text");
     store.reach(place, len, 1, By::TextWrite).expect(rt, "put");
     store.put(place, bytes);
 }
 
+/// Moves bytes between ranges that have to be reached.
 fn copy(rt: &impl Abort, store: &mut Store, to: Pointer, from: Pointer, len: u32) {
     let _ = store.taken();
     store.reach(from, len, 1, By::TextRead).expect(rt, "from");
@@ -30,7 +33,8 @@ fn copy(rt: &impl Abort, store: &mut Store, to: Pointer, from: Pointer, len: u32
     store.copy_within(to, from, len);
 }
 
-fn fill(rt: &impl Abort, store: &mut Store, place: Pointer, len: u32)
+/// Stores sevens in a range that has to be reached.
+pub(crate) fn fill(rt: &impl Abort, store: &mut Store, place: Pointer, len: u32)
     requires { length store.old.writes < 4 }
     ensures { length store.new.writes ≤ length store.old.writes + 1 }
 {
@@ -40,7 +44,8 @@ fn fill(rt: &impl Abort, store: &mut Store, place: Pointer, len: u32)
     store.fill(place, len, 7);
 }
 
-fn make(rt: &impl Abort, store: &mut Store, size: u32, class: Class) -> u32
+/// Makes an object that has to fit.
+pub(crate) fn make(rt: &impl Abort, store: &mut Store, size: u32, class: Class) -> u32
     requires size { (0 < size) × (size ≤ 16777216) }
     requires few { length store.old.objects < 100 }
     ensures { length store.new.objects ≤ length store.old.objects + 1 }
@@ -60,12 +65,14 @@ fn expect_full(rt: &impl Abort, store: &mut Store, size: u32)
     );
 }
 
-fn empty_store(rt: &impl Abort, alloc: Global, bytes: u64) -> Store
+/// A store with the message object alone.
+pub(crate) fn empty_store(rt: &impl Abort, alloc: Global, bytes: u64) -> Store
     ensures { length result.objects ≤ 1 }
 {
     Store::new(alloc, bytes).expect(rt, "store")
 }
 
+/// Ends the lifetime of an object, if it lives.
 fn kill(store: &mut Store, object: u32)
     ensures { length store.new.objects ≡ length store.old.objects }
 {
@@ -211,48 +218,6 @@ fn copies_as_through_a_second_copy(rt: HostRuntime) {
         4,
     );
     expect_bytes(&rt, &store, pointer(text, 0, 8), b"\xffba\xffdeff");
-}
-
-#[test]
-fn loads_what_was_stored(rt: HostRuntime) {
-    let mut store = empty_store(&rt, rt.alloc(), 1000);
-    let object = make(&rt, &mut store, 32, Class::Automatic);
-    let stored = Pointer {
-        object: 4_200_000_001,
-        offset: 7,
-        low: 260,
-        high: 65_536,
-    };
-    put(&rt, &mut store, pointer(object, 0, 32), &stored.bytes());
-    put(&rt, &mut store, pointer(object, 16, 32), &[2, 1, 1]);
-    let place = pointer(object, 0, 32);
-    store.reach(place, 20, 1, By::Star).expect(&rt, "reached");
-    let view = store.view(place, 20);
-    assert_eq!(rt; view.byte(0), Some(1));
-    assert_eq!(rt; view.byte(8), Some(4));
-    assert_eq!(rt; view.byte(19), None);
-    assert_eq!(rt; view.zero(), Some(5));
-    for (offset, len, number, truth) in [
-        (0, 4, Ok(4_200_000_001), Err(Code::U12)),
-        (8, 8, Ok(281_474_976_710_916), Err(Code::U12)),
-        (16, 2, Ok(258), Err(Code::U12)),
-        (18, 1, Ok(1), Ok(1)),
-        (5, 1, Ok(0), Ok(0)),
-        (16, 4, Err(Code::U05), Err(Code::U05)),
-    ] {
-        let place = pointer(object, offset, 32);
-        store.reach(place, len, 1, By::Star).expect(&rt, "reached");
-        let view = store.view(place, len);
-        if view.len() <= 8 {
-            assert_eq!(rt; view.number(), number, "at {offset}");
-            assert_eq!(rt; view.truth(), truth, "at {offset}");
-        }
-    }
-    for (offset, answer) in [(0, Ok(stored)), (16, Err(Code::U05))] {
-        let place = pointer(object, offset, 32);
-        store.reach(place, 16, 8, By::Star).expect(&rt, "reached");
-        assert_eq!(rt; store.view(place, 16).pointer(), answer);
-    }
 }
 
 #[test]

@@ -1,11 +1,13 @@
-ghost use Rattle.std.specs.Prelude.{◌≡◌, ◌<◌, Some, length, position, slice_get};
-ghost use Rattle.object_store.specs.Steps.{is_null};
+//! The bytes of a range, lent by the store.
+ghost use Rattle.std.specs.Prelude.{◌≡◌, ◌+◌, ◌<◌, ◌≤◌};
+ghost use Rattle.std.specs.Prelude.{Some, length, position, slice_get, take, drop};
+ghost use Rattle.object_store.specs.Steps.{is_null, is_text_end};
 
 use crate::cell::Cell;
 use std::marker::Model;
 
-/// The bytes of a range that was reached, as they stand in the store. Contracts see the list of them, with none for each
-/// indeterminate one.
+/// The bytes of a range that was reached, as they stand in the store. Contracts see the list of them, with `None` for
+/// each indeterminate one.
 #[derive(Drop)]
 pub struct View<'a> {
     pub(crate) cells: &'a [Cell],
@@ -44,16 +46,40 @@ impl<'a> View<'a> {
         cells[index].byte
     }
 
+    /// A part of the bytes, from an index on.
+    pub fn part(&self, at: usize, len: usize) -> View<'_>
+        requires { at + len ≤ length self.now }
+        ensures { result ≡ take len (drop at self.now) }
+    {
+        View::new(&self.cells[at..at + len])
+    }
+
     /// The index of the first byte that is 0, and not indeterminate; `None` where there is none.
     pub fn zero(&self) -> Option<usize>
         ensures { result ≡ position is_null self.now }
     {
         first_null(self.cells)
     }
+
+    /// The index of the first byte that is 0 or indeterminate: there a text ends, or can't be read on. `None` where
+    /// there is none.
+    pub fn text_end(&self) -> Option<usize>
+        ensures { result ≡ position is_text_end self.now }
+    {
+        first_text_end(self.cells)
+    }
 }
 
+/// The index of the first of these cells that is 0.
 fn first_null(cells: &[Cell]) -> Option<usize>
     ensures { result ≡ position (λ c. is_null c.byte) cells.now }
 {
     cells.iter().position(|c| matches!(c.byte, Some(0)))
+}
+
+/// The index of the first of these cells that is 0 or indeterminate.
+fn first_text_end(cells: &[Cell]) -> Option<usize>
+    ensures { result ≡ position (λ c. is_text_end c.byte) cells.now }
+{
+    cells.iter().position(|c| matches!(c.byte, None | Some(0)))
 }

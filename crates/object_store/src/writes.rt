@@ -1,12 +1,16 @@
+//! The stores that the store tells of.
 ghost use Rattle.std.specs.Prelude.{◌≡◌, ◌+◌, ◌<◌, ◌≤◌, [], ◌∷◌, ◌++◌, length, slice_get};
 
 use std::marker::Model;
 
-/// A store that was done: the object, the first byte in it, and the number of bytes.
+/// A store that was done.
 #[derive(Clone, Copy, Debug, PartialEq, Eq)]
 pub struct Write {
+    /// The number of the object.
     pub object: u32,
+    /// The first byte that was stored to.
     pub at: u32,
+    /// How many bytes were; at least 1.
     pub len: u32,
 }
 

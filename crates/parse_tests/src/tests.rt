@@ -1,4 +1,5 @@
-// Units and what they are answered with.
+//! Units and what they are answered with.
+mod answers;
 mod declarations;
 mod expressions;
 mod limits;
@@ -9,5 +10,4 @@ mod scopes;
 mod show;
 mod show_unit;
 mod statements;
-mod told;
 mod word;

@@ -2,7 +2,7 @@
 
 ghost use Rattle.std.specs.Prelude.{◌≡◌, ◌^◌, ◌<◌, ◌++◌, ℕ, IfOk};
 ghost use Rattle.c_parser.specs.Agree.{Gives};
-ghost use Rattle.c_syntax.specs.ReadBody as spec;
+ghost use Rattle.c_reading.specs.ReadBody as spec;
 ghost use Rattle.c_syntax.specs.Scopes.{expr_adds};
 ghost use Rattle.c_syntax.specs.View.{expr_of};
 ghost use Rattle.c_syntax.specs.ViewUnit.{assert_of};
@@ -21,7 +21,7 @@ use critical_table::Pos;
 use std::alloc::Global;
 
 /// A static assertion whose parts are of a height at most.
-#[tactic(auto, unfolding(c_syntax::specs::ReadBody::assert_at))]
+#[tactic(auto, unfolding(c_reading::specs::ReadBody::assert_at))]
 pub(crate) fn assert_at<'a>(
     alloc: Global,
     scope: &mut Scope,
@@ -39,7 +39,7 @@ pub(crate) fn assert_at<'a>(
 }
 
 /// What stands behind the word at this place.
-#[tactic(auto, unfolding(c_syntax::specs::ReadBody::assert_on))]
+#[tactic(auto, unfolding(c_reading::specs::ReadBody::assert_on))]
 fn assert_on<'a>(
     alloc: Global,
     scope: &mut Scope,
@@ -58,14 +58,15 @@ fn assert_on<'a>(
 }
 
 /// What stands behind the comma: the message, and the end of the assertion at this place.
-#[tactic(auto, unfolding(c_syntax::specs::ReadBody::message))]
+#[tactic(auto, unfolding(c_reading::specs::ReadBody::message))]
 fn message<'a>(
     alloc: Global,
     pos: Pos,
     condition: Box<Expr>,
     tokens: &'a [Token],
 ) -> Result<(Box<Assert>, &'a [Token]), Fault<'a>>
-    ensures reads { (k : ℕ) → Gives (λ x. assert_of x.value) (spec.message k pos (expr_of condition.value) tokens.now) result }
+    ensures reads { (k : ℕ)
+        → Gives (λ x. assert_of x.value) (spec.message k pos (expr_of condition.value) tokens.now) result }
     ensures condition { IfOk result (λ x. expr_of x.0.value.condition ≡ expr_of condition.value) }
 {
     match tokens {

@@ -2,8 +2,8 @@
 
 ghost use Rattle.std.specs.Prelude.{◌≡◌, ◌^◌, ◌<◌, ◌≤◌, ◌++◌, length, take, map, IfOk};
 ghost use Rattle.c_parser.specs.Agree.{Gives};
-ghost use Rattle.c_syntax.specs.Reader.{seen};
-ghost use Rattle.c_syntax.specs.ReadBody as spec;
+ghost use Rattle.c_reading.specs.Parser.{next_body};
+ghost use Rattle.c_reading.specs.ReadBody as spec;
 ghost use Rattle.c_syntax.specs.Scopes as names;
 ghost use Rattle.c_syntax.specs.ScopesUnit.{block_item_adds, switch_item_adds};
 ghost use Rattle.c_syntax.specs.ViewUnit.{block_item_of, switch_item_of};
@@ -24,7 +24,7 @@ use std::alloc::Global;
 
 /// Whether the token begins an item of a block.
 fn begins_block_item(scope: &Scope, tokens: &[Token]) -> bool
-    ensures { result ≡ spec.begins_block_item scope.now (seen tokens.now) }
+    ensures { result ≡ spec.begins_block_item scope.now (next_body tokens.now) }
 {
     begins_statement(scope, tokens)
         || begins_type(scope, tokens)
@@ -33,7 +33,7 @@ fn begins_block_item(scope: &Scope, tokens: &[Token]) -> bool
 
 /// Whether the token begins an item of the block of a `switch`.
 fn begins_switch_item(scope: &Scope, tokens: &[Token]) -> bool
-    ensures { result ≡ spec.begins_switch_item scope.now (seen tokens.now) }
+    ensures { result ≡ spec.begins_switch_item scope.now (next_body tokens.now) }
 {
     begins_block_item(scope, tokens)
         || is_word(tokens, Word::Case)
@@ -42,7 +42,7 @@ fn begins_switch_item(scope: &Scope, tokens: &[Token]) -> bool
 
 /// Whether the next token ends no block.
 fn goes_item(tokens: &[Token]) -> bool
-    ensures { (scope : names.Scope) → result ≡ spec.goes_item scope (seen tokens.now) }
+    ensures { (scope : names.Scope) → result ≡ spec.goes_item scope (next_body tokens.now) }
 {
     !tokens.is_empty() && !is_mark(tokens, Punct::CloseBrace)
 }
@@ -70,7 +70,7 @@ fn block_item<'a>(
 
 /// An item of a block whose parts are of a height at most (6.8.2).
 #[cycle(executing)]
-#[tactic(auto, unfolding(c_syntax::specs::ReadBody::block_item_at))]
+#[tactic(auto, unfolding(c_reading::specs::ReadBody::block_item_at))]
 fn block_item_at<'a>(
     alloc: Global,
     scope: &mut Scope,
@@ -78,7 +78,8 @@ fn block_item_at<'a>(
     tokens: &'a [Token],
 ) -> Result<(Box<BlockItem>, &'a [Token]), Fault<'a>>
     requires { k < 2 ^ 32 }
-    ensures reads { Gives (λ x. block_item_of x.value) (spec.block_item_at k (spec.statements k) scope.old tokens.now) result }
+    ensures reads { Gives (λ x. block_item_of x.value)
+        (spec.block_item_at k (spec.statements k) scope.old tokens.now) result }
     ensures scope { IfOk result (λ x. scope.new ≡ scope.old ++ block_item_adds (block_item_of x.0.value)) }
 {
     if begins_type(scope, tokens) {
@@ -119,7 +120,7 @@ fn switch_item<'a>(
 
 /// A label, or an item of a block, in the block of a `switch` (6.8.1, 6.8.4.2).
 #[cycle(executing)]
-#[tactic(auto, unfolding(c_syntax::specs::ReadBody::switch_item_at))]
+#[tactic(auto, unfolding(c_reading::specs::ReadBody::switch_item_at))]
 fn switch_item_at<'a>(
     alloc: Global,
     scope: &mut Scope,
@@ -127,7 +128,8 @@ fn switch_item_at<'a>(
     tokens: &'a [Token],
 ) -> Result<(Box<SwitchItem>, &'a [Token]), Fault<'a>>
     requires { k < 2 ^ 32 }
-    ensures reads { Gives (λ x. switch_item_of x.value) (spec.switch_item_at k (spec.statements k) scope.old tokens.now) result }
+    ensures reads { Gives (λ x. switch_item_of x.value)
+        (spec.switch_item_at k (spec.statements k) scope.old tokens.now) result }
     ensures scope { IfOk result (λ x. scope.new ≡ scope.old ++ switch_item_adds (switch_item_of x.0.value)) }
 {
     let pos = place(tokens);
@@ -148,7 +150,7 @@ fn switch_item_at<'a>(
 }
 
 /// What is left of a label of a `switch` behind its word `case` (6.8.1).
-#[tactic(auto, unfolding(c_syntax::specs::ReadBody::case_on))]
+#[tactic(auto, unfolding(c_reading::specs::ReadBody::case_on))]
 fn case_on<'a>(
     alloc: Global,
     scope: &mut Scope,
@@ -157,7 +159,8 @@ fn case_on<'a>(
     tokens: &'a [Token],
 ) -> Result<(Box<SwitchItem>, &'a [Token]), Fault<'a>>
     requires { k < 2 ^ 32 }
-    ensures reads { Gives (λ x. switch_item_of x.value) (spec.case_on k (spec.statements k) scope.old pos tokens.now) result }
+    ensures reads { Gives (λ x. switch_item_of x.value)
+        (spec.case_on k (spec.statements k) scope.old pos tokens.now) result }
     ensures scope { IfOk result (λ x. scope.new ≡ scope.old ++ switch_item_adds (switch_item_of x.0.value)) }
 {
     let (value, rest) = expr(alloc, scope, k, CONDITIONAL, tokens)?;
@@ -175,7 +178,8 @@ pub(crate) fn block_run<'a>(
     tokens: &'a [Token],
 ) -> Result<(Vec<BlockItem>, &'a [Token]), Fault<'a>>
     requires { k < 2 ^ 32 }
-    ensures reads { Gives (λ x. map block_item_of x.items) (spec.block_run (spec.statements k).block_item scope.old tokens.now) result }
+    ensures reads { Gives (λ x. map block_item_of x.items)
+        (spec.block_run (spec.statements k).block_item scope.old tokens.now) result }
     ensures longer { IfOk result (λ _. length scope.old ≤ length scope.new) }
     ensures kept { IfOk result (λ _. take (length scope.old) scope.new ≡ scope.old) }
 {
@@ -198,7 +202,8 @@ pub(crate) fn switch_run<'a>(
     tokens: &'a [Token],
 ) -> Result<(Vec<SwitchItem>, &'a [Token]), Fault<'a>>
     requires { k < 2 ^ 32 }
-    ensures reads { Gives (λ x. map switch_item_of x.items) (spec.switch_run (spec.statements k).switch_item scope.old tokens.now) result }
+    ensures reads { Gives (λ x. map switch_item_of x.items)
+        (spec.switch_run (spec.statements k).switch_item scope.old tokens.now) result }
     ensures longer { IfOk result (λ _. length scope.old ≤ length scope.new) }
     ensures kept { IfOk result (λ _. take (length scope.old) scope.new ≡ scope.old) }
 {

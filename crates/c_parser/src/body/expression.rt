@@ -3,8 +3,8 @@
 ghost use Rattle.std.specs.Prelude.{◌≡◌, ◌^◌, ◌<◌, ◌++◌, IfOk};
 ghost use Rattle.std.specs.Option.{option_map};
 ghost use Rattle.c_parser.specs.Agree.{Gives};
-ghost use Rattle.c_syntax.specs.ReadBody as spec;
-ghost use Rattle.c_syntax.specs.ReadToken as test;
+ghost use Rattle.c_reading.specs.ReadBody as spec;
+ghost use Rattle.c_reading.specs.ReadToken as test;
 ghost use Rattle.c_syntax.specs.Scopes.{expr_adds};
 ghost use Rattle.c_syntax.specs.ScopesUnit.{optional_adds};
 ghost use Rattle.c_syntax.specs.View.{expr_of};
@@ -20,7 +20,7 @@ use c_syntax::expression::Expr;
 use std::alloc::Global;
 
 /// An expression (6.5.17) of a height at most.
-#[tactic(auto, unfolding(c_syntax::specs::ReadBody::an_expr, c_syntax::specs::ReadExpr::wanted))]
+#[tactic(auto, unfolding(c_reading::specs::ReadBody::an_expr, c_reading::specs::ReadExpr::expr_lower))]
 fn an_expr<'a>(
     alloc: Global,
     scope: &mut Scope,
@@ -42,7 +42,7 @@ fn an_expr<'a>(
 }
 
 /// An expression or none, and past the mark behind it.
-#[tactic(auto, unfolding(c_syntax::specs::ReadBody::optional))]
+#[tactic(auto, unfolding(c_reading::specs::ReadBody::optional))]
 pub(crate) fn optional<'a>(
     alloc: Global,
     scope: &mut Scope,
@@ -51,7 +51,8 @@ pub(crate) fn optional<'a>(
     tokens: &'a [Token],
 ) -> Result<(Box<Option<Expr>>, &'a [Token]), Fault<'a>>
     requires { k < 2 ^ 32 }
-    ensures reads { Gives (λ x. option_map expr_of x.value) (spec.optional k (spec.statements k) (test.is_mark end) scope.old tokens.now) result }
+    ensures reads { Gives (λ x. option_map expr_of x.value)
+        (spec.optional k (spec.statements k) (test.is_mark end) scope.old tokens.now) result }
     ensures scope { IfOk result (λ x. scope.new ≡ scope.old ++ optional_adds (option_map expr_of x.0.value)) }
 {
     if is_mark(tokens, end) {
@@ -65,7 +66,7 @@ pub(crate) fn optional<'a>(
 }
 
 /// The controlling expression of a statement (6.8.4p1, 6.8.5p2), in its parentheses.
-#[tactic(auto, unfolding(c_syntax::specs::ReadBody::controlling))]
+#[tactic(auto, unfolding(c_reading::specs::ReadBody::controlling))]
 pub(crate) fn controlling<'a>(
     alloc: Global,
     scope: &mut Scope,

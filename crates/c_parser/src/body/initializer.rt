@@ -2,9 +2,10 @@
 
 ghost use Rattle.std.specs.Prelude.{◌≡◌, ◌+◌, ◌^◌, ◌<◌, ◌++◌, map, IfOk};
 ghost use Rattle.c_parser.specs.Agree.{Gives};
-ghost use Rattle.c_syntax.specs.ReadBody as spec;
-ghost use Rattle.c_syntax.specs.Reader.{seen};
+ghost use Rattle.c_reading.specs.ReadBody as spec;
+ghost use Rattle.c_reading.specs.Parser.{next_body};
 ghost use Rattle.c_syntax.specs.ScopesUnit.{initializer_adds, item_adds, items_add};
+ghost use Rattle.c_syntax.specs.ViewUnit as view;
 ghost use Rattle.c_syntax.specs.ViewUnit.{initializer_of, item_of};
 
 use crate::begins::begins_expr;
@@ -21,14 +22,14 @@ use std::alloc::Global;
 
 /// Whether the token begins an initializer.
 fn begins_initializer(scope: &Scope, tokens: &[Token]) -> bool
-    ensures { result ≡ spec.begins_initializer scope.now (seen tokens.now) }
+    ensures { result ≡ spec.begins_initializer scope.now (next_body tokens.now) }
 {
     begins_expr(scope, tokens) || is_mark(tokens, Punct::OpenBrace)
 }
 
 /// Whether the token begins an initializer in braces, with its designator.
 fn begins_item(scope: &Scope, tokens: &[Token]) -> bool
-    ensures { result ≡ spec.begins_item scope.now (seen tokens.now) }
+    ensures { result ≡ spec.begins_item scope.now (next_body tokens.now) }
 {
     begins_initializer(scope, tokens)
         || is_mark(tokens, Punct::Dot)
@@ -44,7 +45,8 @@ pub(crate) fn initializer<'a>(
     tokens: &'a [Token],
 ) -> Result<(Box<Initializer>, &'a [Token]), Fault<'a>>
     requires { h < 2 ^ 32 }
-    ensures reads { Gives (λ x. initializer_of x.value) ((spec.initializers h).initializer scope.old tokens.now) result }
+    ensures reads { Gives (λ x. initializer_of x.value) ((spec.initializers h).initializer scope.old tokens.now)
+        result }
     ensures scope { IfOk result (λ x. scope.new ≡ scope.old ++ initializer_adds (initializer_of x.0.value)) }
 {
     if h > 0 {
@@ -58,7 +60,7 @@ pub(crate) fn initializer<'a>(
 
 /// An expression, or a list in braces (6.7.9).
 #[cycle(initializing)]
-#[tactic(auto, unfolding(c_syntax::specs::ReadBody::initializer_at))]
+#[tactic(auto, unfolding(c_reading::specs::ReadBody::initializer_at))]
 fn initializer_at<'a>(
     alloc: Global,
     scope: &mut Scope,
@@ -66,7 +68,9 @@ fn initializer_at<'a>(
     tokens: &'a [Token],
 ) -> Result<(Box<Initializer>, &'a [Token]), Fault<'a>>
     requires { k + 1 < 2 ^ 32 }
-    ensures reads { Gives (λ x. initializer_of x.value) (spec.initializer_at k (spec.initializers k) scope.old tokens.now) result }
+    ensures reads { Gives (λ x. initializer_of x.value)
+        (spec.initializer_at k (spec.initializers k) scope.old tokens.now)
+        result }
     ensures scope { IfOk result (λ x. scope.new ≡ scope.old ++ initializer_adds (initializer_of x.0.value)) }
 {
     if is_mark(tokens, Punct::OpenBrace) {
@@ -82,7 +86,7 @@ fn initializer_at<'a>(
 
 /// What stands behind an opening brace at this place, and past the closing one.
 #[cycle(initializing)]
-#[tactic(auto, unfolding(c_syntax::specs::ReadBody::braces))]
+#[tactic(auto, unfolding(c_reading::specs::ReadBody::braces))]
 fn braces<'a>(
     alloc: Global,
     scope: &mut Scope,
@@ -91,7 +95,8 @@ fn braces<'a>(
     tokens: &'a [Token],
 ) -> Result<(Box<Initializer>, &'a [Token]), Fault<'a>>
     requires { k < 2 ^ 32 }
-    ensures reads { Gives (λ x. initializer_of x.value) (spec.braces k (spec.initializers k) scope.old pos tokens.now) result }
+    ensures reads { Gives (λ x. initializer_of x.value)
+        (spec.braces k (spec.initializers k) scope.old pos tokens.now) result }
     ensures scope { IfOk result (λ x. scope.new ≡ scope.old ++ initializer_adds (initializer_of x.0.value)) }
 {
     let (all, rest) = listed_items(alloc, scope, k, tokens)?;
@@ -116,8 +121,9 @@ fn listed_items<'a>(
     tokens: &'a [Token],
 ) -> Result<(Listed, &'a [Token]), Fault<'a>>
     requires { k < 2 ^ 32 }
-    ensures reads { Gives (λ x. (map item_of x.items.items, x.comma)) (spec.listed_items k (spec.initializers k) scope.old tokens.now) result }
-    ensures scope { IfOk result (λ x. scope.new ≡ scope.old ++ items_add (spec.items (map item_of x.0.items.items))) }
+    ensures reads { Gives (λ x. (map item_of x.items.items, x.comma))
+        (spec.listed_items k (spec.initializers k) scope.old tokens.now) result }
+    ensures scope { IfOk result (λ x. scope.new ≡ scope.old ++ items_add (view.items (map item_of x.0.items.items))) }
 {
     let mut items = Vec::new(alloc);
     let mut rest = tokens;
@@ -159,7 +165,7 @@ fn item<'a>(
 
 /// An initializer in braces, with its designator (6.7.9).
 #[cycle(initializing)]
-#[tactic(auto, unfolding(c_syntax::specs::ReadBody::item_at))]
+#[tactic(auto, unfolding(c_reading::specs::ReadBody::item_at))]
 fn item_at<'a>(
     alloc: Global,
     scope: &mut Scope,
@@ -189,7 +195,7 @@ fn item_at<'a>(
 
 /// What stands behind the dot of a designator at this place.
 #[cycle(initializing)]
-#[tactic(auto, unfolding(c_syntax::specs::ReadBody::member_item))]
+#[tactic(auto, unfolding(c_reading::specs::ReadBody::member_item))]
 fn member_item<'a>(
     alloc: Global,
     scope: &mut Scope,
@@ -198,7 +204,8 @@ fn member_item<'a>(
     tokens: &'a [Token],
 ) -> Result<(Box<Item>, &'a [Token]), Fault<'a>>
     requires { k < 2 ^ 32 }
-    ensures reads { Gives (λ x. item_of x.value) (spec.member_item k (spec.initializers k) scope.old pos tokens.now) result }
+    ensures reads { Gives (λ x. item_of x.value) (spec.member_item k (spec.initializers k) scope.old pos tokens.now)
+        result }
     ensures scope { IfOk result (λ x. scope.new ≡ scope.old ++ item_adds (item_of x.0.value)) }
 {
     match tokens {
@@ -220,7 +227,7 @@ fn member_item<'a>(
 
 /// What stands behind the bracket of a designator at this place.
 #[cycle(initializing)]
-#[tactic(auto, unfolding(c_syntax::specs::ReadBody::index_item))]
+#[tactic(auto, unfolding(c_reading::specs::ReadBody::index_item))]
 fn index_item<'a>(
     alloc: Global,
     scope: &mut Scope,
@@ -229,7 +236,8 @@ fn index_item<'a>(
     tokens: &'a [Token],
 ) -> Result<(Box<Item>, &'a [Token]), Fault<'a>>
     requires { k < 2 ^ 32 }
-    ensures reads { Gives (λ x. item_of x.value) (spec.index_item k (spec.initializers k) scope.old pos tokens.now) result }
+    ensures reads { Gives (λ x. item_of x.value) (spec.index_item k (spec.initializers k) scope.old pos tokens.now)
+        result }
     ensures scope { IfOk result (λ x. scope.new ≡ scope.old ++ item_adds (item_of x.0.value)) }
 {
     let (index, rest) = expr(alloc, scope, k, CONDITIONAL, tokens)?;

@@ -2,7 +2,7 @@
 
 ghost use Rattle.std.specs.Prelude.{◌≡◌, ◌^◌, ◌<◌, ◌++◌, [], IfOk};
 ghost use Rattle.c_parser.specs.Agree.{Gives};
-ghost use Rattle.c_syntax.specs.ReadBody as spec;
+ghost use Rattle.c_reading.specs.ReadBody as spec;
 ghost use Rattle.c_syntax.specs.ScopesUnit.{declaration_adds, for_init_adds, statement_adds};
 ghost use Rattle.c_syntax.specs.ViewUnit.{declaration_of, for_init_of, statement_of};
 
@@ -22,7 +22,7 @@ use std::alloc::Global;
 
 /// What is left of a `while` statement (6.8.5.1) behind its word.
 #[cycle(executing)]
-#[tactic(auto, unfolding(c_syntax::specs::ReadBody::while_on))]
+#[tactic(auto, unfolding(c_reading::specs::ReadBody::while_on))]
 pub(crate) fn while_on<'a>(
     alloc: Global,
     scope: &mut Scope,
@@ -31,20 +31,21 @@ pub(crate) fn while_on<'a>(
     tokens: &'a [Token],
 ) -> Result<(Box<Statement>, &'a [Token]), Fault<'a>>
     requires { k < 2 ^ 32 }
-    ensures reads { Gives (λ x. statement_of x.value) (spec.while_on k (spec.statements k) scope.old pos tokens.now) result }
+    ensures reads { Gives (λ x. statement_of x.value) (spec.while_on k (spec.statements k) scope.old pos tokens.now)
+        result }
     ensures scope { IfOk result (λ x. scope.new ≡ scope.old ++ statement_adds (statement_of x.0.value)) }
 {
     let outer = scope.len();
     let (test, rest) = controlling(alloc, scope, k, tokens)?;
-    let (turn, rest) = statement(alloc, scope, k, rest)?;
+    let (body, rest) = statement(alloc, scope, k, rest)?;
     scope.leave(outer);
-    let node = make::statement::while_loop(alloc, pos, test, turn)?;
+    let node = make::statement::while_loop(alloc, pos, test, body)?;
     Ok((node, rest))
 }
 
 /// What is left of a `do` statement (6.8.5.2) behind its word.
 #[cycle(executing)]
-#[tactic(auto, unfolding(c_syntax::specs::ReadBody::do_on))]
+#[tactic(auto, unfolding(c_reading::specs::ReadBody::do_on))]
 pub(crate) fn do_on<'a>(
     alloc: Global,
     scope: &mut Scope,
@@ -53,11 +54,12 @@ pub(crate) fn do_on<'a>(
     tokens: &'a [Token],
 ) -> Result<(Box<Statement>, &'a [Token]), Fault<'a>>
     requires { k < 2 ^ 32 }
-    ensures reads { Gives (λ x. statement_of x.value) (spec.do_on k (spec.statements k) scope.old pos tokens.now) result }
+    ensures reads { Gives (λ x. statement_of x.value) (spec.do_on k (spec.statements k) scope.old pos tokens.now)
+        result }
     ensures scope { IfOk result (λ x. scope.new ≡ scope.old ++ statement_adds (statement_of x.0.value)) }
 {
     let outer = scope.len();
-    let (turn, rest) = statement(alloc, scope, k, tokens)?;
+    let (body, rest) = statement(alloc, scope, k, tokens)?;
     scope.leave(outer);
     if !is_word(rest, Word::While) {
         return Err(Fault::Unfit(rest));
@@ -65,13 +67,13 @@ pub(crate) fn do_on<'a>(
     let (test, rest) = controlling(alloc, scope, k, tail(rest))?;
     scope.leave(outer);
     let rest = expect(rest, Punct::Semicolon)?;
-    let node = make::statement::do_loop(alloc, pos, turn, test)?;
+    let node = make::statement::do_loop(alloc, pos, body, test)?;
     Ok((node, rest))
 }
 
 /// What is left of a `for` statement (6.8.5.3) behind its word.
 #[cycle(executing)]
-#[tactic(auto, unfolding(c_syntax::specs::ReadBody::for_on))]
+#[tactic(auto, unfolding(c_reading::specs::ReadBody::for_on))]
 pub(crate) fn for_on<'a>(
     alloc: Global,
     scope: &mut Scope,
@@ -80,7 +82,8 @@ pub(crate) fn for_on<'a>(
     tokens: &'a [Token],
 ) -> Result<(Box<Statement>, &'a [Token]), Fault<'a>>
     requires { k < 2 ^ 32 }
-    ensures reads { Gives (λ x. statement_of x.value) (spec.for_on k (spec.statements k) scope.old pos tokens.now) result }
+    ensures reads { Gives (λ x. statement_of x.value) (spec.for_on k (spec.statements k) scope.old pos tokens.now)
+        result }
     ensures scope { IfOk result (λ x. scope.new ≡ scope.old ++ statement_adds (statement_of x.0.value)) }
 {
     let outer = scope.len();
@@ -102,21 +105,22 @@ fn for_begun<'a>(
     tokens: &'a [Token],
 ) -> Result<(Box<Statement>, &'a [Token]), Fault<'a>>
     requires { k < 2 ^ 32 }
-    ensures reads { Gives (λ x. statement_of x.value) (spec.for_begun k (spec.statements k) scope.old pos (for_init_of init.value) tokens.now) result }
+    ensures reads { Gives (λ x. statement_of x.value)
+        (spec.for_begun k (spec.statements k) scope.old pos (for_init_of init.value) tokens.now) result }
     ensures scope { IfOk result (λ x. scope.new ≡ scope.old ++ statement_adds (statement_of x.0.value)) }
     ensures closed { IfOk result (λ x. statement_adds (statement_of x.0.value) ≡ []) }
 {
     let outer = scope.len();
     let (test, rest) = optional(alloc, scope, k, Punct::Semicolon, tokens)?;
     let (step, rest) = optional(alloc, scope, k, Punct::CloseParen, rest)?;
-    let (turn, rest) = statement(alloc, scope, k, rest)?;
+    let (body, rest) = statement(alloc, scope, k, rest)?;
     scope.leave(outer);
-    let node = make::statement::for_loop(alloc, pos, init, test, step, turn)?;
+    let node = make::statement::for_loop(alloc, pos, init, test, step, body)?;
     Ok((node, rest))
 }
 
 /// How a `for` statement begins, past the first semicolon.
-#[tactic(auto, unfolding(c_syntax::specs::ReadBody::for_init))]
+#[tactic(auto, unfolding(c_reading::specs::ReadBody::for_init))]
 fn for_init<'a>(
     alloc: Global,
     scope: &mut Scope,

@@ -2,8 +2,9 @@
 
 ghost use Rattle.std.specs.Prelude.{◌≡◌, ◌^◌, ◌<◌, ◌++◌, map, IfOk};
 ghost use Rattle.c_parser.specs.Agree.{Gives};
-ghost use Rattle.c_syntax.specs.ReadBody as spec;
+ghost use Rattle.c_reading.specs.ReadBody as spec;
 ghost use Rattle.c_syntax.specs.ScopesUnit.{statement_adds};
+ghost use Rattle.c_syntax.specs.ViewUnit as view;
 ghost use Rattle.c_syntax.specs.ViewUnit.{statement_of, switch_item_of};
 
 use crate::body::block::switch_run;
@@ -20,7 +21,7 @@ use std::alloc::Global;
 
 /// What is left of an `if` statement (6.8.4.1) behind its word.
 #[cycle(executing)]
-#[tactic(auto, unfolding(c_syntax::specs::ReadBody::if_on))]
+#[tactic(auto, unfolding(c_reading::specs::ReadBody::if_on))]
 pub(crate) fn if_on<'a>(
     alloc: Global,
     scope: &mut Scope,
@@ -29,7 +30,8 @@ pub(crate) fn if_on<'a>(
     tokens: &'a [Token],
 ) -> Result<(Box<Statement>, &'a [Token]), Fault<'a>>
     requires { k < 2 ^ 32 }
-    ensures reads { Gives (λ x. statement_of x.value) (spec.if_on k (spec.statements k) scope.old pos tokens.now) result }
+    ensures reads { Gives (λ x. statement_of x.value) (spec.if_on k (spec.statements k) scope.old pos tokens.now)
+        result }
     ensures scope { IfOk result (λ x. scope.new ≡ scope.old ++ statement_adds (statement_of x.0.value)) }
 {
     let outer = scope.len();
@@ -50,7 +52,7 @@ pub(crate) fn if_on<'a>(
 
 /// What is left of a `switch` statement (6.8.4.2) behind its word.
 #[cycle(executing)]
-#[tactic(auto, unfolding(c_syntax::specs::ReadBody::switch_on))]
+#[tactic(auto, unfolding(c_reading::specs::ReadBody::switch_on))]
 pub(crate) fn switch_on<'a>(
     alloc: Global,
     scope: &mut Scope,
@@ -59,7 +61,8 @@ pub(crate) fn switch_on<'a>(
     tokens: &'a [Token],
 ) -> Result<(Box<Statement>, &'a [Token]), Fault<'a>>
     requires { k < 2 ^ 32 }
-    ensures reads { Gives (λ x. statement_of x.value) (spec.switch_on k (spec.statements k) scope.old pos tokens.now) result }
+    ensures reads { Gives (λ x. statement_of x.value)
+        (spec.switch_on k (spec.statements k) scope.old pos tokens.now) result }
     ensures scope { IfOk result (λ x. scope.new ≡ scope.old ++ statement_adds (statement_of x.0.value)) }
 {
     let outer = scope.len();
@@ -73,7 +76,7 @@ pub(crate) fn switch_on<'a>(
 
 /// The items of the block of a `switch` behind its opening brace, and past its closing brace.
 #[cycle(executing)]
-#[tactic(auto, unfolding(c_syntax::specs::ReadBody::switch_with))]
+#[tactic(auto, unfolding(c_reading::specs::ReadBody::switch_with))]
 fn switch_block<'a>(
     alloc: Global,
     scope: &mut Scope,
@@ -81,7 +84,8 @@ fn switch_block<'a>(
     tokens: &'a [Token],
 ) -> Result<(Vec<SwitchItem>, &'a [Token]), Fault<'a>>
     requires { k < 2 ^ 32 }
-    ensures reads { Gives (λ x. spec.switch_items (map switch_item_of x.items)) (spec.switch_with (spec.statements k).switch_item scope.old tokens.now) result }
+    ensures reads { Gives (λ x. view.switch_items (map switch_item_of x.items))
+        (spec.switch_with (spec.statements k).switch_item scope.old tokens.now) result }
     ensures scope { IfOk result (λ x. scope.new ≡ scope.old) }
 {
     let outer = scope.len();

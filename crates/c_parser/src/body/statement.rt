@@ -2,8 +2,8 @@
 
 ghost use Rattle.std.specs.Prelude.{◌≡◌, ◌^◌, ◌<◌, ◌++◌, [], map, IfOk};
 ghost use Rattle.c_parser.specs.Agree.{Gives};
-ghost use Rattle.c_syntax.specs.Reader.{seen};
-ghost use Rattle.c_syntax.specs.ReadBody as spec;
+ghost use Rattle.c_reading.specs.Parser.{next_body};
+ghost use Rattle.c_reading.specs.ReadBody as spec;
 ghost use Rattle.c_syntax.specs.ScopesUnit.{statement_adds};
 ghost use Rattle.c_syntax.specs.TreeUnit as tree;
 ghost use Rattle.c_syntax.specs.ViewUnit.{statement_of, block_item_of, block_items};
@@ -24,7 +24,7 @@ use std::alloc::Global;
 
 /// Whether the token is a word that begins a statement.
 fn begins_statement_word(tokens: &[Token]) -> bool
-    ensures { result ≡ spec.begins_statement_word (seen tokens.now) }
+    ensures { result ≡ spec.begins_statement_word (next_body tokens.now) }
 {
     matches!(
         tokens,
@@ -49,7 +49,7 @@ fn begins_statement_word(tokens: &[Token]) -> bool
 
 /// Whether the token begins a statement.
 pub(crate) fn begins_statement(scope: &Scope, tokens: &[Token]) -> bool
-    ensures { result ≡ spec.begins_statement scope.now (seen tokens.now) }
+    ensures { result ≡ spec.begins_statement scope.now (next_body tokens.now) }
 {
     begins_expr(scope, tokens)
         || begins_statement_word(tokens)
@@ -80,7 +80,7 @@ pub(crate) fn statement<'a>(
 
 /// A statement whose parts are of a height at most.
 #[cycle(executing)]
-#[tactic(auto, unfolding(c_syntax::specs::ReadBody::statement_at))]
+#[tactic(auto, unfolding(c_reading::specs::ReadBody::statement_at))]
 pub(crate) fn statement_at<'a>(
     alloc: Global,
     scope: &mut Scope,
@@ -88,11 +88,12 @@ pub(crate) fn statement_at<'a>(
     tokens: &'a [Token],
 ) -> Result<(Box<Statement>, &'a [Token]), Fault<'a>>
     requires { k < 2 ^ 32 }
-    ensures reads { Gives (λ x. statement_of x.value) (spec.statement_at k (spec.statements k) scope.old tokens.now) result }
+    ensures reads { Gives (λ x. statement_of x.value) (spec.statement_at k (spec.statements k) scope.old tokens.now)
+        result }
     ensures scope { IfOk result (λ x. scope.new ≡ scope.old ++ statement_adds (statement_of x.0.value)) }
 {
     let [first, rest @ ..] = tokens else {
-        return evaluated(alloc, scope, k, tokens);
+        return expression_statement(alloc, scope, k, tokens);
     };
     let pos = first.pos;
     match &first.body {
@@ -108,7 +109,7 @@ pub(crate) fn statement_at<'a>(
         Body::Word(Word::Break) => break_on(alloc, pos, rest),
         Body::Word(Word::Continue) => continue_on(alloc, pos, rest),
         Body::Word(Word::Return) => return_on(alloc, scope, k, pos, rest),
-        _ => evaluated(alloc, scope, k, tokens),
+        _ => expression_statement(alloc, scope, k, tokens),
     }
 }
 
@@ -121,7 +122,8 @@ fn compound<'a>(
     tokens: &'a [Token],
 ) -> Result<(Box<Statement>, &'a [Token]), Fault<'a>>
     requires { k < 2 ^ 32 }
-    ensures reads { Gives (λ x. statement_of x.value) (spec.compound k (spec.statements k) scope.old tokens.now) result }
+    ensures reads { Gives (λ x. statement_of x.value) (spec.compound k (spec.statements k) scope.old tokens.now)
+        result }
     ensures scope { IfOk result (λ x. scope.new ≡ scope.old ++ statement_adds (statement_of x.0.value)) }
 {
     let (items, rest) = block(alloc, scope, k, tokens)?;
@@ -131,7 +133,7 @@ fn compound<'a>(
 
 /// The items of a block behind its opening brace, of a height at most, and past its closing brace.
 #[cycle(executing)]
-#[tactic(auto, unfolding(c_syntax::specs::ReadBody::block_with))]
+#[tactic(auto, unfolding(c_reading::specs::ReadBody::block_with))]
 pub(crate) fn block<'a>(
     alloc: Global,
     scope: &mut Scope,
@@ -139,7 +141,8 @@ pub(crate) fn block<'a>(
     tokens: &'a [Token],
 ) -> Result<(Vec<BlockItem>, &'a [Token]), Fault<'a>>
     requires { k < 2 ^ 32 }
-    ensures reads { Gives (λ x. block_items (map block_item_of x.items)) (spec.block_with (spec.statements k).block_item scope.old tokens.now) result }
+    ensures reads { Gives (λ x. block_items (map block_item_of x.items))
+        (spec.block_with (spec.statements k).block_item scope.old tokens.now) result }
     ensures scope { IfOk result (λ x. scope.new ≡ scope.old) }
 {
     let outer = scope.len();
@@ -150,14 +153,16 @@ pub(crate) fn block<'a>(
 }
 
 /// An expression statement (6.8.3).
-fn evaluated<'a>(
+fn expression_statement<'a>(
     alloc: Global,
     scope: &mut Scope,
     k: usize,
     tokens: &'a [Token],
 ) -> Result<(Box<Statement>, &'a [Token]), Fault<'a>>
     requires { k < 2 ^ 32 }
-    ensures reads { Gives (λ x. statement_of x.value) (spec.evaluated k (spec.statements k) scope.old tokens.now) result }
+    ensures reads { Gives (λ x. statement_of x.value)
+        (spec.expression_statement k (spec.statements k) scope.old tokens.now)
+        result }
     ensures scope { IfOk result (λ x. scope.new ≡ scope.old ++ statement_adds (statement_of x.0.value)) }
 {
     let (expr, rest) = optional(alloc, scope, k, Punct::Semicolon, tokens)?;
@@ -174,7 +179,8 @@ fn return_on<'a>(
     tokens: &'a [Token],
 ) -> Result<(Box<Statement>, &'a [Token]), Fault<'a>>
     requires { k < 2 ^ 32 }
-    ensures reads { Gives (λ x. statement_of x.value) (spec.return_on k (spec.statements k) scope.old pos tokens.now) result }
+    ensures reads { Gives (λ x. statement_of x.value)
+        (spec.return_on k (spec.statements k) scope.old pos tokens.now) result }
     ensures scope { IfOk result (λ x. scope.new ≡ scope.old ++ statement_adds (statement_of x.0.value)) }
 {
     let (value, rest) = optional(alloc, scope, k, Punct::Semicolon, tokens)?;

@@ -2,9 +2,9 @@
 
 ghost use Rattle.std.specs.Prelude.{◌≡◌, ◌^◌, ◌<◌, ◌++◌, map, IfOk, is_some};
 ghost use Rattle.c_parser.specs.Agree.{Gives};
-ghost use Rattle.c_syntax.specs.ReadBody as spec;
-ghost use Rattle.c_syntax.specs.Reader.{seen};
-ghost use Rattle.c_syntax.specs.ReadToken as next;
+ghost use Rattle.c_reading.specs.ReadBody as spec;
+ghost use Rattle.c_reading.specs.Parser.{next_body};
+ghost use Rattle.c_reading.specs.ReadToken as next;
 ghost use Rattle.c_syntax.specs.Scopes as names;
 ghost use Rattle.c_syntax.specs.Scopes.{specifiers_add, declarator_adds};
 ghost use Rattle.c_syntax.specs.ScopesUnit.{own_parameters, external_adds};
@@ -23,9 +23,9 @@ use crate::read::height::declarator;
 use crate::read::specifier::specifiers;
 use crate::scope::Scope;
 use c_lexer::{Punct, Token, Word};
+use c_reading::declarator_form::DeclaratorForm;
 use c_syntax::declaration::Declaration;
 use c_syntax::declarator::Declarator;
-use c_syntax::form::Form;
 use c_syntax::specifier::Specifier;
 use c_syntax::statement::BlockItem;
 use c_syntax::unit::External;
@@ -46,7 +46,7 @@ fn has_own_parameters(declarator: &Declarator) -> bool
 
 /// Whether the body of a function follows the declarator.
 fn is_body(declarator: &Declarator, tokens: &[Token]) -> bool
-    ensures { result ≡ spec.is_body (declarator_of declarator.now) (seen tokens.now) }
+    ensures { result ≡ spec.is_body (declarator_of declarator.now) (next_body tokens.now) }
 {
     is_mark(tokens, Punct::OpenBrace) && has_own_parameters(declarator)
 }
@@ -59,7 +59,8 @@ fn block_lower<'a>(
     tokens: &'a [Token],
 ) -> Result<(Vec<BlockItem>, &'a [Token]), Fault<'a>>
     requires { k < 2 ^ 32 }
-    ensures reads { Gives (λ x. block_items (map block_item_of x.items)) (spec.block_lower k scope.old tokens.now) result }
+    ensures reads { Gives (λ x. block_items (map block_item_of x.items)) (spec.block_lower k scope.old tokens.now)
+        result }
     ensures scope { IfOk result (λ x. scope.new ≡ scope.old) }
 {
     if k == 0 {
@@ -78,8 +79,16 @@ fn function<'a>(
     tokens: &'a [Token],
 ) -> Result<(Box<External>, &'a [Token]), Fault<'a>>
     requires { k < 2 ^ 32 }
-    ensures reads { (outer : names.Scope) → scope.old ≡ outer ++ specifiers_add (specifiers_of specifiers.items) ++ declarator_adds (declarator_of declarator.value) → Gives (λ x. external_of x.value) (spec.function_in k (spec.function_scope k outer (specifiers_of specifiers.items) (declarator_of declarator.value)) (specifiers_of specifiers.items) (declarator_of declarator.value) tokens.now) result }
-    ensures scope { IfOk result (λ x. (outer : names.Scope) → scope.old ≡ outer ++ specifiers_add (specifiers_of specifiers.items) ++ declarator_adds (declarator_of declarator.value) → scope.new ≡ outer ++ external_adds (external_of x.0.value)) }
+    ensures reads { (outer : names.Scope) → scope.old ≡ outer ++ specifiers_add (specifiers_of specifiers.items)
+        ++ declarator_adds (declarator_of declarator.value)
+        → Gives (λ x. external_of x.value)
+        (spec.function_in k
+        (spec.function_scope k outer (specifiers_of specifiers.items) (declarator_of declarator.value))
+        (specifiers_of specifiers.items) (declarator_of declarator.value) tokens.now) result }
+    ensures scope { IfOk result (λ x. (outer : names.Scope)
+        → scope.old ≡ outer ++ specifiers_add (specifiers_of specifiers.items)
+        ++ declarator_adds (declarator_of declarator.value)
+        → scope.new ≡ outer ++ external_adds (external_of x.0.value)) }
 {
     declare_own_name(alloc, scope, names_types(&specifiers), &declarator)?;
     let outside = scope.len();
@@ -91,7 +100,7 @@ fn function<'a>(
 }
 
 /// What is left of an external declaration behind its specifiers and its first declarator.
-#[tactic(auto, unfolding(c_syntax::specs::ReadBody::external_on))]
+#[tactic(auto, unfolding(c_reading::specs::ReadBody::external_on))]
 fn external_on<'a>(
     alloc: Global,
     scope: &mut Scope,
@@ -101,8 +110,14 @@ fn external_on<'a>(
     tokens: &'a [Token],
 ) -> Result<(Box<External>, &'a [Token]), Fault<'a>>
     requires { k < 2 ^ 32 }
-    ensures reads { (outer : names.Scope) → scope.old ≡ outer ++ specifiers_add (specifiers_of specifiers.items) ++ declarator_adds (declarator_of declarator.value) → Gives (λ x. external_of x.value) (spec.external_on k outer (specifiers_of specifiers.items) (declarator_of declarator.value) tokens.now) result }
-    ensures scope { IfOk result (λ x. (outer : names.Scope) → scope.old ≡ outer ++ specifiers_add (specifiers_of specifiers.items) ++ declarator_adds (declarator_of declarator.value) → scope.new ≡ outer ++ external_adds (external_of x.0.value)) }
+    ensures reads { (outer : names.Scope) → scope.old ≡ outer ++ specifiers_add (specifiers_of specifiers.items)
+        ++ declarator_adds (declarator_of declarator.value)
+        → Gives (λ x. external_of x.value)
+        (spec.external_on k outer (specifiers_of specifiers.items) (declarator_of declarator.value) tokens.now) result }
+    ensures scope { IfOk result (λ x. (outer : names.Scope)
+        → scope.old ≡ outer ++ specifiers_add (specifiers_of specifiers.items)
+        ++ declarator_adds (declarator_of declarator.value)
+        → scope.new ≡ outer ++ external_adds (external_of x.0.value)) }
 {
     if is_body(&declarator, tokens) {
         return function(alloc, scope, k, specifiers, declarator, tail(tokens));
@@ -121,8 +136,13 @@ fn external_by<'a>(
     tokens: &'a [Token],
 ) -> Result<(Box<External>, &'a [Token]), Fault<'a>>
     requires { k < 2 ^ 32 }
-    ensures reads { (outer : names.Scope) → scope.old ≡ outer ++ specifiers_add (specifiers_of specifiers.items) → Gives (λ x. external_of x.value) (spec.external_by k outer (specifiers_of specifiers.items) (next.is_mark Punct.Semicolon (seen tokens.now)) tokens.now) result }
-    ensures scope { IfOk result (λ x. (outer : names.Scope) → scope.old ≡ outer ++ specifiers_add (specifiers_of specifiers.items) → scope.new ≡ outer ++ external_adds (external_of x.0.value)) }
+    ensures reads { (outer : names.Scope) → scope.old ≡ outer ++ specifiers_add (specifiers_of specifiers.items)
+        → Gives (λ x. external_of x.value)
+        (spec.external_by k outer (specifiers_of specifiers.items)
+        (next.is_mark Punct.Semicolon (next_body tokens.now)) tokens.now) result }
+    ensures scope { IfOk result (λ x. (outer : names.Scope)
+        → scope.old ≡ outer ++ specifiers_add (specifiers_of specifiers.items)
+        → scope.new ≡ outer ++ external_adds (external_of x.0.value)) }
 {
     if is_mark(tokens, Punct::Semicolon) {
         let declaration = Declaration {
@@ -132,12 +152,12 @@ fn external_by<'a>(
         let whole = unit::declaration(alloc, declaration)?;
         return Ok((whole, tail(tokens)));
     }
-    let (declarator, rest) = declarator(alloc, scope, k, Form::Named, tokens)?;
+    let (declarator, rest) = declarator(alloc, scope, k, DeclaratorForm::Named, tokens)?;
     external_on(alloc, scope, k, specifiers, declarator.node, rest)
 }
 
 /// An external declaration whose parts are of a height at most.
-#[tactic(auto, unfolding(c_syntax::specs::ReadBody::external_at))]
+#[tactic(auto, unfolding(c_reading::specs::ReadBody::external_at))]
 fn external_at<'a>(
     alloc: Global,
     scope: &mut Scope,

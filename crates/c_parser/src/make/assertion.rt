@@ -15,7 +15,12 @@ pub(crate) fn assertion(
     condition: Box<Expr>,
     message: Literals,
 ) -> Result<Box<Assert>, AllocError>
-    ensures { IfOk result (λ x. assert_of x.value ≡ record { pos = pos; condition = expr_of condition.value; message = literals_of message }) }
+    ensures { IfOk result (λ x. assert_of x.value ≡ record {
+      pos = pos;
+      condition =
+          expr_of condition.value;
+      message = literals_of message;
+    }) }
 {
     Ok(Box::new(
         alloc,

@@ -9,12 +9,13 @@ use c_syntax::declarator::Declarator;
 use c_syntax::initializer::Initializer;
 use std::alloc::{AllocError, Global};
 
-pub(crate) fn initialized(
+pub(crate) fn with_initializer(
     alloc: Global,
     declarator: Box<Declarator>,
     value: Box<Initializer>,
 ) -> Result<Box<InitDeclarator>, AllocError>
-    ensures { IfOk result (λ x. init_declarator_of x.value ≡ record { declarator = declarator_of declarator.value; initializer = Some (initializer_of value.value) }) }
+    ensures { IfOk result (λ x. init_declarator_of x.value
+        ≡ record { declarator = declarator_of declarator.value; initializer = Some (initializer_of value.value) }) }
 {
     Ok(Box::new(
         alloc,
@@ -25,11 +26,12 @@ pub(crate) fn initialized(
     )?)
 }
 
-pub(crate) fn uninitialized(
+pub(crate) fn without_initializer(
     alloc: Global,
     declarator: Box<Declarator>,
 ) -> Result<Box<InitDeclarator>, AllocError>
-    ensures { IfOk result (λ x. init_declarator_of x.value ≡ record { declarator = declarator_of declarator.value; initializer = None }) }
+    ensures { IfOk result (λ x. init_declarator_of x.value
+        ≡ record { declarator = declarator_of declarator.value; initializer = None }) }
 {
     Ok(Box::new(
         alloc,

@@ -11,7 +11,7 @@ use c_syntax::specifier::Qualifier;
 use critical_table::{Name, Pos};
 use std::alloc::{AllocError, Global};
 
-pub(crate) fn omitted(alloc: Global) -> Result<Part<Declarator>, AllocError>
+pub(crate) fn omission(alloc: Global) -> Result<Part<Declarator>, AllocError>
     ensures tree { IfOk result (λ x. declarator_of x.node.value ≡ tree.Omitted) }
     ensures height { IfOk result (λ x. x.height ≡ 0) }
 {
@@ -49,7 +49,8 @@ pub(crate) fn pointer(
     inner: Part<Declarator>,
 ) -> Result<Part<Declarator>, AllocError>
     requires { inner.height + 1 < 2 ^ 64 }
-    ensures tree { IfOk result (λ x. declarator_of x.node.value ≡ tree.PointerTo qualifiers.items (declarator_of inner.node.value)) }
+    ensures tree { IfOk result (λ x. declarator_of x.node.value
+        ≡ tree.PointerTo qualifiers.items (declarator_of inner.node.value)) }
     ensures height { IfOk result (λ x. x.height ≡ inner.height + 1) }
 {
     Ok(Part {
@@ -64,7 +65,8 @@ pub(crate) fn open_array(
     inner: Part<Declarator>,
 ) -> Result<Part<Declarator>, AllocError>
     requires { inner.height + 1 < 2 ^ 64 }
-    ensures tree { IfOk result (λ x. declarator_of x.node.value ≡ tree.ArrayOf (declarator_of inner.node.value) tree.Without) }
+    ensures tree { IfOk result (λ x. declarator_of x.node.value
+        ≡ tree.ArrayOf (declarator_of inner.node.value) tree.Without) }
     ensures height { IfOk result (λ x. x.height ≡ inner.height + 1) }
 {
     Ok(Part {
@@ -80,7 +82,8 @@ pub(crate) fn array(
 ) -> Result<Part<Declarator>, AllocError>
     requires inner { inner.height + 1 < 2 ^ 64 }
     requires length { length.height + 1 < 2 ^ 64 }
-    ensures tree { IfOk result (λ x. declarator_of x.node.value ≡ tree.ArrayOf (declarator_of inner.node.value) (tree.With (expr_of length.node.value))) }
+    ensures tree { IfOk result (λ x. declarator_of x.node.value
+        ≡ tree.ArrayOf (declarator_of inner.node.value) (tree.With (expr_of length.node.value))) }
     ensures height { IfOk result (λ x. x.height ≡ max inner.height length.height + 1) }
 {
     Ok(Part {
@@ -97,7 +100,8 @@ pub(crate) fn function(
 ) -> Result<Part<Declarator>, AllocError>
     requires inner { inner.height + 1 < 2 ^ 64 }
     requires all { all.height + 1 < 2 ^ 64 }
-    ensures tree { IfOk result (λ x. declarator_of x.node.value ≡ tree.FunctionOf (declarator_of inner.node.value) (parameters (map parameter_of all.nodes.items)) variadic) }
+    ensures tree { IfOk result (λ x. declarator_of x.node.value
+        ≡ tree.FunctionOf (declarator_of inner.node.value) (parameters (map parameter_of all.nodes.items)) variadic) }
     ensures height { IfOk result (λ x. x.height ≡ max inner.height all.height + 1) }
 {
     Ok(Part {

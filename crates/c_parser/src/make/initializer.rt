@@ -1,7 +1,7 @@
 //! Initializers of their parts.
 
 ghost use Rattle.std.specs.Prelude.{◌≡◌, map, IfOk};
-ghost use Rattle.c_syntax.specs.ReadBody.{items};
+ghost use Rattle.c_syntax.specs.ViewUnit.{items};
 ghost use Rattle.c_syntax.specs.TreeUnit as tree;
 ghost use Rattle.c_syntax.specs.View.{expr_of};
 ghost use Rattle.c_syntax.specs.ViewUnit.{initializer_of, item_of};
@@ -52,7 +52,8 @@ pub(crate) fn index(
     index: Box<Expr>,
     value: Box<Initializer>,
 ) -> Result<Box<Item>, AllocError>
-    ensures { IfOk result (λ x. item_of x.value ≡ tree.ForIndex pos (expr_of index.value) (initializer_of value.value)) }
+    ensures { IfOk result (λ x. item_of x.value
+        ≡ tree.ForIndex pos (expr_of index.value) (initializer_of value.value)) }
 {
     let index = Box::into_inner(index);
     Ok(Box::new(alloc, Item::Index(pos, index, Box::into_inner(value)))?)

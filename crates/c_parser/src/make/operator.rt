@@ -19,7 +19,8 @@ pub(crate) fn infix(
 ) -> Result<Part<Expr>, AllocError>
     requires left { left.height + 1 < 2 ^ 64 }
     requires right { right.height + 1 < 2 ^ 64 }
-    ensures tree { IfOk result (λ x. expr_of x.node.value ≡ tree.Infix' pos operator (expr_of left.node.value) (expr_of right.node.value)) }
+    ensures tree { IfOk result (λ x. expr_of x.node.value
+        ≡ tree.InfixOp pos operator (expr_of left.node.value) (expr_of right.node.value)) }
     ensures height { IfOk result (λ x. x.height ≡ max left.height right.height + 1) }
 {
     Ok(Part {
@@ -36,7 +37,8 @@ pub(crate) fn index(
 ) -> Result<Part<Expr>, AllocError>
     requires left { left.height + 1 < 2 ^ 64 }
     requires right { right.height + 1 < 2 ^ 64 }
-    ensures tree { IfOk result (λ x. expr_of x.node.value ≡ tree.Index pos (expr_of left.node.value) (expr_of right.node.value)) }
+    ensures tree { IfOk result (λ x. expr_of x.node.value
+        ≡ tree.Index pos (expr_of left.node.value) (expr_of right.node.value)) }
     ensures height { IfOk result (λ x. x.height ≡ max left.height right.height + 1) }
 {
     Ok(Part {
@@ -53,7 +55,8 @@ pub(crate) fn call(
 ) -> Result<Part<Expr>, AllocError>
     requires function { function.height + 1 < 2 ^ 64 }
     requires arguments { arguments.height + 1 < 2 ^ 64 }
-    ensures tree { IfOk result (λ x. expr_of x.node.value ≡ tree.Call pos (expr_of function.node.value) (exprs (map expr_of arguments.nodes.items))) }
+    ensures tree { IfOk result (λ x. expr_of x.node.value
+        ≡ tree.Call pos (expr_of function.node.value) (exprs (map expr_of arguments.nodes.items))) }
     ensures height { IfOk result (λ x. x.height ≡ max function.height arguments.height + 1) }
 {
     Ok(Part {
@@ -86,7 +89,7 @@ pub(crate) fn postfix(
     operand: Part<Expr>,
 ) -> Result<Part<Expr>, AllocError>
     requires { operand.height + 1 < 2 ^ 64 }
-    ensures tree { IfOk result (λ x. expr_of x.node.value ≡ tree.Postfix' pos operator (expr_of operand.node.value)) }
+    ensures tree { IfOk result (λ x. expr_of x.node.value ≡ tree.PostfixOp pos operator (expr_of operand.node.value)) }
     ensures height { IfOk result (λ x. x.height ≡ operand.height + 1) }
 {
     Ok(Part {
@@ -105,7 +108,8 @@ pub(crate) fn cond(
     requires test { test.height + 1 < 2 ^ 64 }
     requires first { first.height + 1 < 2 ^ 64 }
     requires second { second.height + 1 < 2 ^ 64 }
-    ensures tree { IfOk result (λ x. expr_of x.node.value ≡ tree.Cond pos (expr_of test.node.value) (expr_of first.node.value) (expr_of second.node.value)) }
+    ensures tree { IfOk result (λ x. expr_of x.node.value
+        ≡ tree.Cond pos (expr_of test.node.value) (expr_of first.node.value) (expr_of second.node.value)) }
     ensures height { IfOk result (λ x. x.height ≡ max test.height (max first.height second.height) + 1) }
 {
     Ok(Part {

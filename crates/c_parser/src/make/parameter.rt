@@ -17,7 +17,8 @@ pub(crate) fn type_name(
 ) -> Result<Part<TypeName>, AllocError>
     requires specifiers { specifiers.height + 1 < 2 ^ 64 }
     requires declarator { declarator.height + 1 < 2 ^ 64 }
-    ensures tree { IfOk result (λ x. type_name_of x.node.value ≡ tree.Type' (specifiers_of specifiers.nodes.items) (declarator_of declarator.node.value)) }
+    ensures tree { IfOk result (λ x. type_name_of x.node.value
+        ≡ tree.NamedType (specifiers_of specifiers.nodes.items) (declarator_of declarator.node.value)) }
     ensures height { IfOk result (λ x. x.height ≡ max specifiers.height declarator.height + 1) }
 {
     let height = specifiers.height.max(declarator.height) + 1;
@@ -38,7 +39,8 @@ pub(crate) fn parameter(
 ) -> Result<Part<Parameter>, AllocError>
     requires specifiers { specifiers.height + 1 < 2 ^ 64 }
     requires declarator { declarator.height + 1 < 2 ^ 64 }
-    ensures tree { IfOk result (λ x. parameter_of x.node.value ≡ tree.Param (specifiers_of specifiers.nodes.items) (declarator_of declarator.node.value)) }
+    ensures tree { IfOk result (λ x. parameter_of x.node.value
+        ≡ tree.Param (specifiers_of specifiers.nodes.items) (declarator_of declarator.node.value)) }
     ensures height { IfOk result (λ x. x.height ≡ max specifiers.height declarator.height + 1) }
 {
     let height = specifiers.height.max(declarator.height) + 1;
@@ -59,7 +61,8 @@ pub(crate) fn member(
 ) -> Result<Part<MemberDeclaration>, AllocError>
     requires specifiers { specifiers.height + 1 < 2 ^ 64 }
     requires declarators { all.height + 1 < 2 ^ 64 }
-    ensures tree { IfOk result (λ x. member_of x.node.value ≡ tree.Declares (specifiers_of specifiers.nodes.items) (declarators (map declarator_of all.nodes.items))) }
+    ensures tree { IfOk result (λ x. member_of x.node.value
+        ≡ tree.Declares (specifiers_of specifiers.nodes.items) (declarators (map declarator_of all.nodes.items))) }
     ensures height { IfOk result (λ x. x.height ≡ max specifiers.height all.height + 1) }
 {
     let height = specifiers.height.max(all.height) + 1;

@@ -79,7 +79,7 @@ pub(crate) fn prefix(
     operand: Part<Expr>,
 ) -> Result<Part<Expr>, AllocError>
     requires { operand.height + 1 < 2 ^ 64 }
-    ensures tree { IfOk result (λ x. expr_of x.node.value ≡ tree.Prefix' pos operator (expr_of operand.node.value)) }
+    ensures tree { IfOk result (λ x. expr_of x.node.value ≡ tree.PrefixOp pos operator (expr_of operand.node.value)) }
     ensures height { IfOk result (λ x. x.height ≡ operand.height + 1) }
 {
     Ok(Part {
@@ -95,7 +95,8 @@ pub(crate) fn measure(
     type_name: Part<TypeName>,
 ) -> Result<Part<Expr>, AllocError>
     requires { type_name.height + 1 < 2 ^ 64 }
-    ensures tree { IfOk result (λ x. expr_of x.node.value ≡ tree.Measure' pos operator (type_name_of type_name.node.value)) }
+    ensures tree { IfOk result (λ x. expr_of x.node.value
+        ≡ tree.MeasureOp pos operator (type_name_of type_name.node.value)) }
     ensures height { IfOk result (λ x. x.height ≡ type_name.height + 1) }
 {
     Ok(Part {
@@ -112,7 +113,8 @@ pub(crate) fn cast(
 ) -> Result<Part<Expr>, AllocError>
     requires type_name { type_name.height + 1 < 2 ^ 64 }
     requires operand { operand.height + 1 < 2 ^ 64 }
-    ensures tree { IfOk result (λ x. expr_of x.node.value ≡ tree.Cast pos (type_name_of type_name.node.value) (expr_of operand.node.value)) }
+    ensures tree { IfOk result (λ x. expr_of x.node.value
+        ≡ tree.Cast pos (type_name_of type_name.node.value) (expr_of operand.node.value)) }
     ensures height { IfOk result (λ x. x.height ≡ max type_name.height operand.height + 1) }
 {
     Ok(Part {

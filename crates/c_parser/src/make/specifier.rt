@@ -13,7 +13,7 @@ use critical_table::{Name, Pos};
 use std::alloc::{AllocError, Global};
 
 pub(crate) fn storage(alloc: Global, pos: Pos, word: Storage) -> Result<Part<Specifier>, AllocError>
-    ensures tree { IfOk result (λ x. specifier_of x.node.value ≡ tree.Storage' pos word) }
+    ensures tree { IfOk result (λ x. specifier_of x.node.value ≡ tree.StorageClass pos word) }
     ensures height { IfOk result (λ x. x.height ≡ 0) }
 {
     Ok(Part {
@@ -27,7 +27,7 @@ pub(crate) fn qualifier(
     pos: Pos,
     word: Qualifier,
 ) -> Result<Part<Specifier>, AllocError>
-    ensures tree { IfOk result (λ x. specifier_of x.node.value ≡ tree.Qualifier' pos word) }
+    ensures tree { IfOk result (λ x. specifier_of x.node.value ≡ tree.TypeQualifier pos word) }
     ensures height { IfOk result (λ x. x.height ≡ 0) }
 {
     Ok(Part {
@@ -47,7 +47,7 @@ pub(crate) fn inline(alloc: Global, pos: Pos) -> Result<Part<Specifier>, AllocEr
 }
 
 pub(crate) fn basic(alloc: Global, pos: Pos, word: BasicWord) -> Result<Part<Specifier>, AllocError>
-    ensures tree { IfOk result (λ x. specifier_of x.node.value ≡ tree.BasicWord' pos word) }
+    ensures tree { IfOk result (λ x. specifier_of x.node.value ≡ tree.BasicType pos word) }
     ensures height { IfOk result (λ x. x.height ≡ 0) }
 {
     Ok(Part {
@@ -104,7 +104,8 @@ pub(crate) fn compound(
     all: Parts<MemberDeclaration>,
 ) -> Result<Part<Specifier>, AllocError>
     requires { all.height + 1 < 2 ^ 64 }
-    ensures tree { IfOk result (λ x. specifier_of x.node.value ≡ tree.Compound pos word tag (members (map member_of all.nodes.items))) }
+    ensures tree { IfOk result (λ x. specifier_of x.node.value
+        ≡ tree.Compound pos word tag (members (map member_of all.nodes.items))) }
     ensures height { IfOk result (λ x. x.height ≡ all.height + 1) }
 {
     Ok(Part {
@@ -121,7 +122,8 @@ pub(crate) fn enumeration(
     comma: bool,
 ) -> Result<Part<Specifier>, AllocError>
     requires { all.height + 1 < 2 ^ 64 }
-    ensures tree { IfOk result (λ x. specifier_of x.node.value ≡ tree.Enum pos tag (enumerators (map enumerator_of all.nodes.items)) comma) }
+    ensures tree { IfOk result (λ x. specifier_of x.node.value
+        ≡ tree.Enum pos tag (enumerators (map enumerator_of all.nodes.items)) comma) }
     ensures height { IfOk result (λ x. x.height ≡ all.height + 1) }
 {
     Ok(Part {
@@ -153,7 +155,8 @@ pub(crate) fn enumerator(
     name: &Name,
     value: Part<Expr>,
 ) -> Result<Part<Enumerator>, AllocError>
-    ensures tree { IfOk result (λ x. enumerator_of x.node.value ≡ tree.Enumerates pos name.now (tree.With (expr_of value.node.value))) }
+    ensures tree { IfOk result (λ x. enumerator_of x.node.value
+        ≡ tree.Enumerates pos name.now (tree.With (expr_of value.node.value))) }
     ensures height { IfOk result (λ x. x.height ≡ value.height) }
 {
     let name = Name::new(alloc, name.bytes())?;

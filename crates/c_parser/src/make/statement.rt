@@ -2,7 +2,7 @@
 
 ghost use Rattle.std.specs.Prelude.{◌≡◌, map, IfOk};
 ghost use Rattle.std.specs.Option.{option_map};
-ghost use Rattle.c_syntax.specs.ReadBody.{switch_items};
+ghost use Rattle.c_syntax.specs.ViewUnit.{switch_items};
 ghost use Rattle.c_syntax.specs.TreeUnit as tree;
 ghost use Rattle.c_syntax.specs.View.{expr_of};
 ghost use Rattle.c_syntax.specs.ViewUnit.{statement_of, block_item_of, block_items, switch_item_of, for_init_of};
@@ -36,7 +36,8 @@ pub(crate) fn if_else(
     then: Box<Statement>,
     other: Box<Statement>,
 ) -> Result<Box<Statement>, AllocError>
-    ensures { IfOk result (λ x. statement_of x.value ≡ tree.IfElse pos (expr_of test.value) (statement_of then.value) (statement_of other.value)) }
+    ensures { IfOk result (λ x. statement_of x.value
+        ≡ tree.IfElse pos (expr_of test.value) (statement_of then.value) (statement_of other.value)) }
 {
     Ok(Box::new(
         alloc,
@@ -50,7 +51,8 @@ pub(crate) fn switch(
     test: Box<Expr>,
     items: Vec<SwitchItem>,
 ) -> Result<Box<Statement>, AllocError>
-    ensures { IfOk result (λ x. statement_of x.value ≡ tree.Switch pos (expr_of test.value) (switch_items (map switch_item_of items.items))) }
+    ensures { IfOk result (λ x. statement_of x.value
+        ≡ tree.Switch pos (expr_of test.value) (switch_items (map switch_item_of items.items))) }
 {
     Ok(Box::new(alloc, Statement::Switch(pos, Box::into_inner(test), items))?)
 }
@@ -59,22 +61,22 @@ pub(crate) fn while_loop(
     alloc: Global,
     pos: Pos,
     test: Box<Expr>,
-    turn: Box<Statement>,
+    body: Box<Statement>,
 ) -> Result<Box<Statement>, AllocError>
-    ensures { IfOk result (λ x. statement_of x.value ≡ tree.While pos (expr_of test.value) (statement_of turn.value)) }
+    ensures { IfOk result (λ x. statement_of x.value ≡ tree.While pos (expr_of test.value) (statement_of body.value)) }
 {
-    Ok(Box::new(alloc, Statement::While(pos, Box::into_inner(test), turn))?)
+    Ok(Box::new(alloc, Statement::While(pos, Box::into_inner(test), body))?)
 }
 
 pub(crate) fn do_loop(
     alloc: Global,
     pos: Pos,
-    turn: Box<Statement>,
+    body: Box<Statement>,
     test: Box<Expr>,
 ) -> Result<Box<Statement>, AllocError>
-    ensures { IfOk result (λ x. statement_of x.value ≡ tree.Do pos (statement_of turn.value) (expr_of test.value)) }
+    ensures { IfOk result (λ x. statement_of x.value ≡ tree.Do pos (statement_of body.value) (expr_of test.value)) }
 {
-    Ok(Box::new(alloc, Statement::Do(pos, turn, Box::into_inner(test)))?)
+    Ok(Box::new(alloc, Statement::Do(pos, body, Box::into_inner(test)))?)
 }
 
 pub(crate) fn for_loop(
@@ -83,9 +85,11 @@ pub(crate) fn for_loop(
     init: Box<ForInit>,
     test: Box<Option<Expr>>,
     step: Box<Option<Expr>>,
-    turn: Box<Statement>,
+    body: Box<Statement>,
 ) -> Result<Box<Statement>, AllocError>
-    ensures { IfOk result (λ x. statement_of x.value ≡ tree.For pos (for_init_of init.value) (option_map expr_of test.value) (option_map expr_of step.value) (statement_of turn.value)) }
+    ensures { IfOk result (λ x. statement_of x.value
+        ≡ tree.For pos (for_init_of init.value) (option_map expr_of test.value) (option_map expr_of step.value)
+        (statement_of body.value)) }
 {
     Ok(Box::new(
         alloc,
@@ -94,7 +98,7 @@ pub(crate) fn for_loop(
             Box::into_inner(init),
             Box::into_inner(test),
             Box::into_inner(step),
-            turn,
+            body,
         ),
     )?)
 }

@@ -18,7 +18,13 @@ pub(crate) fn function(
     declarator: Box<Declarator>,
     body: Vec<BlockItem>,
 ) -> Result<Box<External>, AllocError>
-    ensures { IfOk result (λ x. external_of x.value ≡ tree.Defines (record { specifiers = specifiers_of specifiers.items; declarator = declarator_of declarator.value; body = block_items (map block_item_of body.items) })) }
+    ensures { IfOk result (λ x. external_of x.value
+        ≡ tree.Defines (record {
+          specifiers = specifiers_of specifiers.items;
+          declarator =
+              declarator_of declarator.value;
+          body = block_items (map block_item_of body.items);
+        })) }
 {
     let function = Function {
         specifiers,

@@ -3,8 +3,8 @@
 ghost use Rattle.std.specs.Prelude.{◌≡◌, map, ◌+◌, ◌^◌, ◌≤◌, ◌<◌, ◌++◌, IfOk};
 ghost use Rattle.c_parser.specs.Agree.{Gives};
 ghost use Rattle.c_syntax.specs.Height.{specifier_height, members_height};
-ghost use Rattle.c_syntax.specs.ReadSpecifier as spec;
-ghost use Rattle.c_syntax.specs.ReadSpecifier.{readers};
+ghost use Rattle.c_reading.specs.ReadSpecifier as spec;
+ghost use Rattle.c_reading.specs.ReadSpecifier.{parsers};
 ghost use Rattle.c_syntax.specs.Scopes.{specifier_adds, members_add};
 ghost use Rattle.c_syntax.specs.View.{specifier_of, member_of, members};
 
@@ -22,7 +22,7 @@ use std::alloc::Global;
 
 /// What stands behind `struct` or `union`, whose place this is.
 #[cycle(reading)]
-#[tactic(auto, unfolding(c_syntax::specs::ReadSpecifier::compound))]
+#[tactic(auto, unfolding(c_reading::specs::ReadSpecifier::compound))]
 pub(crate) fn compound<'a>(
     alloc: Global,
     scope: &mut Scope,
@@ -32,8 +32,10 @@ pub(crate) fn compound<'a>(
     tokens: &'a [Token],
 ) -> Result<(Part<Specifier>, &'a [Token]), Fault<'a>>
     requires { k < 2 ^ 32 }
-    ensures reads { Gives (λ x. specifier_of x.node.value) (spec.compound k (readers k) scope.old pos word tokens.now) result }
-    ensures height { IfOk result (λ x. (x.0.height ≡ specifier_height (specifier_of x.0.node.value)) × (x.0.height ≤ k + 1)) }
+    ensures reads { Gives (λ x. specifier_of x.node.value)
+        (spec.compound k (parsers k) scope.old pos word tokens.now) result }
+    ensures height { IfOk result (λ x. (x.0.height ≡ specifier_height (specifier_of x.0.node.value))
+        × (x.0.height ≤ k + 1)) }
     ensures scope { IfOk result (λ x. scope.new ≡ scope.old ++ specifier_adds (specifier_of x.0.node.value)) }
 {
     match tokens {
@@ -66,7 +68,7 @@ pub(crate) fn compound<'a>(
 
 /// A tag was read.
 #[cycle(reading)]
-#[tactic(auto, unfolding(c_syntax::specs::ReadSpecifier::compound_tag))]
+#[tactic(auto, unfolding(c_reading::specs::ReadSpecifier::compound_tag))]
 fn compound_tag<'a>(
     alloc: Global,
     scope: &mut Scope,
@@ -77,8 +79,11 @@ fn compound_tag<'a>(
     tokens: &'a [Token],
 ) -> Result<(Part<Specifier>, &'a [Token]), Fault<'a>>
     requires { k < 2 ^ 32 }
-    ensures reads { Gives (λ x. specifier_of x.node.value) (spec.compound_tag k (readers k) scope.old pos word tag tokens.now) result }
-    ensures height { IfOk result (λ x. (x.0.height ≡ specifier_height (specifier_of x.0.node.value)) × (x.0.height ≤ k + 1)) }
+    ensures reads { Gives (λ x. specifier_of x.node.value)
+        (spec.compound_tag k (parsers k) scope.old pos word tag tokens.now)
+        result }
+    ensures height { IfOk result (λ x. (x.0.height ≡ specifier_height (specifier_of x.0.node.value))
+        × (x.0.height ≤ k + 1)) }
     ensures scope { IfOk result (λ x. scope.new ≡ scope.old ++ specifier_adds (specifier_of x.0.node.value)) }
 {
     if !is_mark(tokens, Punct::OpenBrace) {
@@ -102,8 +107,10 @@ fn compound_body<'a>(
     tokens: &'a [Token],
 ) -> Result<(Part<Specifier>, &'a [Token]), Fault<'a>>
     requires { k < 2 ^ 32 }
-    ensures reads { Gives (λ x. specifier_of x.node.value) (spec.compound_body k (readers k) scope.old pos word tag tokens.now) result }
-    ensures height { IfOk result (λ x. (x.0.height ≡ specifier_height (specifier_of x.0.node.value)) × (x.0.height ≤ k + 1)) }
+    ensures reads { Gives (λ x. specifier_of x.node.value)
+        (spec.compound_body k (parsers k) scope.old pos word tag tokens.now) result }
+    ensures height { IfOk result (λ x. (x.0.height ≡ specifier_height (specifier_of x.0.node.value))
+        × (x.0.height ≤ k + 1)) }
     ensures scope { IfOk result (λ x. scope.new ≡ scope.old ++ specifier_adds (specifier_of x.0.node.value)) }
 {
     let (all, rest) = all_members(alloc, scope, k, tokens)?;
@@ -120,8 +127,10 @@ fn all_members<'a>(
     tokens: &'a [Token],
 ) -> Result<(Parts<MemberDeclaration>, &'a [Token]), Fault<'a>>
     requires { k < 2 ^ 32 }
-    ensures reads { Gives (λ x. map member_of x.nodes.items) (spec.all_members k (readers k) scope.old tokens.now) result }
-    ensures height { IfOk result (λ x. (x.0.height ≡ members_height (members (map member_of x.0.nodes.items))) × (x.0.height ≤ k)) }
+    ensures reads { Gives (λ x. map member_of x.nodes.items) (spec.all_members k (parsers k) scope.old tokens.now)
+        result }
+    ensures height { IfOk result (λ x. (x.0.height ≡ members_height (members (map member_of x.0.nodes.items)))
+        × (x.0.height ≤ k)) }
     ensures scope { IfOk result (λ x. scope.new ≡ scope.old ++ members_add (members (map member_of x.0.nodes.items))) }
 {
     let mut all = Parts::new(alloc);

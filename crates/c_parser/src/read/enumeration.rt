@@ -3,8 +3,8 @@
 ghost use Rattle.std.specs.Prelude.{◌≡◌, map, ◌+◌, ◌^◌, ◌≤◌, ◌<◌, ◌++◌, IfOk};
 ghost use Rattle.c_parser.specs.Agree.{Gives};
 ghost use Rattle.c_syntax.specs.Height.{specifier_height, enumerator_height, enumerators_height};
-ghost use Rattle.c_syntax.specs.ReadSpecifier as spec;
-ghost use Rattle.c_syntax.specs.ReadSpecifier.{readers};
+ghost use Rattle.c_reading.specs.ReadSpecifier as spec;
+ghost use Rattle.c_reading.specs.ReadSpecifier.{parsers};
 ghost use Rattle.c_syntax.specs.Scopes.{specifier_adds, enumerator_adds, enumerators_add};
 ghost use Rattle.c_syntax.specs.View.{specifier_of, enumerator_of, enumerators};
 
@@ -22,7 +22,7 @@ use std::alloc::Global;
 
 /// What stands behind `enum`, whose place this is.
 #[cycle(reading)]
-#[tactic(auto, unfolding(c_syntax::specs::ReadSpecifier::enumeration))]
+#[tactic(auto, unfolding(c_reading::specs::ReadSpecifier::enumeration))]
 pub(crate) fn enumeration<'a>(
     alloc: Global,
     scope: &mut Scope,
@@ -31,8 +31,10 @@ pub(crate) fn enumeration<'a>(
     tokens: &'a [Token],
 ) -> Result<(Part<Specifier>, &'a [Token]), Fault<'a>>
     requires { k < 2 ^ 32 }
-    ensures reads { Gives (λ x. specifier_of x.node.value) (spec.enumeration k (readers k) scope.old pos tokens.now) result }
-    ensures height { IfOk result (λ x. (x.0.height ≡ specifier_height (specifier_of x.0.node.value)) × (x.0.height ≤ k + 1)) }
+    ensures reads { Gives (λ x. specifier_of x.node.value) (spec.enumeration k (parsers k) scope.old pos tokens.now)
+        result }
+    ensures height { IfOk result (λ x. (x.0.height ≡ specifier_height (specifier_of x.0.node.value))
+        × (x.0.height ≤ k + 1)) }
     ensures scope { IfOk result (λ x. scope.new ≡ scope.old ++ specifier_adds (specifier_of x.0.node.value)) }
 {
     match tokens {
@@ -60,7 +62,7 @@ pub(crate) fn enumeration<'a>(
 
 /// A tag was read.
 #[cycle(reading)]
-#[tactic(auto, unfolding(c_syntax::specs::ReadSpecifier::enum_tag))]
+#[tactic(auto, unfolding(c_reading::specs::ReadSpecifier::enum_tag))]
 fn enum_tag<'a>(
     alloc: Global,
     scope: &mut Scope,
@@ -70,8 +72,10 @@ fn enum_tag<'a>(
     tokens: &'a [Token],
 ) -> Result<(Part<Specifier>, &'a [Token]), Fault<'a>>
     requires { k < 2 ^ 32 }
-    ensures reads { Gives (λ x. specifier_of x.node.value) (spec.enum_tag k (readers k) scope.old pos tag tokens.now) result }
-    ensures height { IfOk result (λ x. (x.0.height ≡ specifier_height (specifier_of x.0.node.value)) × (x.0.height ≤ k + 1)) }
+    ensures reads { Gives (λ x. specifier_of x.node.value)
+        (spec.enum_tag k (parsers k) scope.old pos tag tokens.now) result }
+    ensures height { IfOk result (λ x. (x.0.height ≡ specifier_height (specifier_of x.0.node.value))
+        × (x.0.height ≤ k + 1)) }
     ensures scope { IfOk result (λ x. scope.new ≡ scope.old ++ specifier_adds (specifier_of x.0.node.value)) }
 {
     if !is_mark(tokens, Punct::OpenBrace) {
@@ -82,7 +86,7 @@ fn enum_tag<'a>(
 
 /// What stands behind the opening brace.
 #[cycle(reading)]
-#[tactic(auto, unfolding(c_syntax::specs::ReadSpecifier::enum_body))]
+#[tactic(auto, unfolding(c_reading::specs::ReadSpecifier::enum_body))]
 fn enum_body<'a>(
     alloc: Global,
     scope: &mut Scope,
@@ -92,8 +96,10 @@ fn enum_body<'a>(
     tokens: &'a [Token],
 ) -> Result<(Part<Specifier>, &'a [Token]), Fault<'a>>
     requires { k < 2 ^ 32 }
-    ensures reads { Gives (λ x. specifier_of x.node.value) (spec.enum_body k (readers k) scope.old pos tag tokens.now) result }
-    ensures height { IfOk result (λ x. (x.0.height ≡ specifier_height (specifier_of x.0.node.value)) × (x.0.height ≤ k + 1)) }
+    ensures reads { Gives (λ x. specifier_of x.node.value)
+        (spec.enum_body k (parsers k) scope.old pos tag tokens.now) result }
+    ensures height { IfOk result (λ x. (x.0.height ≡ specifier_height (specifier_of x.0.node.value))
+        × (x.0.height ≤ k + 1)) }
     ensures scope { IfOk result (λ x. scope.new ≡ scope.old ++ specifier_adds (specifier_of x.0.node.value)) }
 {
     let ((all, comma), rest) = listed_enumerators(alloc, scope, k, tokens)?;
@@ -110,9 +116,13 @@ fn listed_enumerators<'a>(
     tokens: &'a [Token],
 ) -> Result<((Parts<Enumerator>, bool), &'a [Token]), Fault<'a>>
     requires { k < 2 ^ 32 }
-    ensures reads { Gives (λ x. (map enumerator_of x.0.nodes.items, x.1)) (spec.listed_enumerators k (readers k) scope.old tokens.now) result }
-    ensures height { IfOk result (λ x. (x.0.0.height ≡ enumerators_height (enumerators (map enumerator_of x.0.0.nodes.items))) × (x.0.0.height ≤ k)) }
-    ensures scope { IfOk result (λ x. scope.new ≡ scope.old ++ enumerators_add (enumerators (map enumerator_of x.0.0.nodes.items))) }
+    ensures reads { Gives (λ x. (map enumerator_of x.0.nodes.items, x.1))
+        (spec.listed_enumerators k (parsers k) scope.old tokens.now) result }
+    ensures height { IfOk result (λ x. (x.0.0.height ≡
+        enumerators_height (enumerators (map enumerator_of x.0.0.nodes.items)))
+        × (x.0.0.height ≤ k)) }
+    ensures scope { IfOk result (λ x. scope.new
+        ≡ scope.old ++ enumerators_add (enumerators (map enumerator_of x.0.0.nodes.items))) }
 {
     let mut all = Parts::new(alloc);
     let mut rest = tokens;
@@ -131,7 +141,7 @@ fn listed_enumerators<'a>(
 
 /// An enumerator (6.7.2.2).
 #[cycle(reading)]
-#[tactic(auto, unfolding(c_syntax::specs::ReadSpecifier::enumerator))]
+#[tactic(auto, unfolding(c_reading::specs::ReadSpecifier::enumerator))]
 fn enumerator<'a>(
     alloc: Global,
     scope: &mut Scope,
@@ -139,8 +149,10 @@ fn enumerator<'a>(
     tokens: &'a [Token],
 ) -> Result<(Part<Enumerator>, &'a [Token]), Fault<'a>>
     requires { k < 2 ^ 32 }
-    ensures reads { Gives (λ x. enumerator_of x.node.value) (spec.enumerator k (readers k) scope.old tokens.now) result }
-    ensures height { IfOk result (λ x. (x.0.height ≡ enumerator_height (enumerator_of x.0.node.value)) × (x.0.height ≤ k)) }
+    ensures reads { Gives (λ x. enumerator_of x.node.value) (spec.enumerator k (parsers k) scope.old tokens.now)
+        result }
+    ensures height { IfOk result (λ x. (x.0.height ≡ enumerator_height (enumerator_of x.0.node.value))
+        × (x.0.height ≤ k)) }
     ensures scope { IfOk result (λ x. scope.new ≡ scope.old ++ enumerator_adds (enumerator_of x.0.node.value)) }
 {
     match tokens {
@@ -158,7 +170,7 @@ fn enumerator<'a>(
 
 /// An enumerator whose name was read. It is in scope behind its value (6.2.1p7).
 #[cycle(reading)]
-#[tactic(auto, unfolding(c_syntax::specs::ReadSpecifier::enumerator_on))]
+#[tactic(auto, unfolding(c_reading::specs::ReadSpecifier::enumerator_on))]
 fn enumerator_on<'a>(
     alloc: Global,
     scope: &mut Scope,
@@ -168,8 +180,10 @@ fn enumerator_on<'a>(
     tokens: &'a [Token],
 ) -> Result<(Part<Enumerator>, &'a [Token]), Fault<'a>>
     requires { k < 2 ^ 32 }
-    ensures reads { Gives (λ x. enumerator_of x.node.value) (spec.enumerator_on k (readers k) scope.old pos name.now tokens.now) result }
-    ensures height { IfOk result (λ x. (x.0.height ≡ enumerator_height (enumerator_of x.0.node.value)) × (x.0.height ≤ k)) }
+    ensures reads { Gives (λ x. enumerator_of x.node.value)
+        (spec.enumerator_on k (parsers k) scope.old pos name.now tokens.now) result }
+    ensures height { IfOk result (λ x. (x.0.height ≡ enumerator_height (enumerator_of x.0.node.value))
+        × (x.0.height ≤ k)) }
     ensures scope { IfOk result (λ x. scope.new ≡ scope.old ++ enumerator_adds (enumerator_of x.0.node.value)) }
 {
     if !is_mark(tokens, Punct::Assign) {

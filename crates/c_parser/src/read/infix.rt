@@ -4,10 +4,10 @@ ghost use Rattle.std.specs.Prelude.{◌≡◌, ◌+◌, ◌^◌, ◌≤◌, ◌<
 ghost use Rattle.c_lexer.specs.declared.token.Body.TheVariants as bodies;
 ghost use Rattle.c_parser.specs.Agree.{Gives};
 ghost use Rattle.c_syntax.specs.Height.{height};
-ghost use Rattle.c_syntax.specs.Reader as reader;
-ghost use Rattle.c_syntax.specs.ReadExpr as spec;
-ghost use Rattle.c_syntax.specs.ReadToken as next_token;
-ghost use Rattle.c_syntax.specs.ReadSpecifier.{readers};
+ghost use Rattle.c_reading.specs.Parser as parser;
+ghost use Rattle.c_reading.specs.ReadExpr as spec;
+ghost use Rattle.c_reading.specs.ReadToken as next_token;
+ghost use Rattle.c_reading.specs.ReadSpecifier.{parsers};
 ghost use Rattle.c_syntax.specs.Scopes as names;
 ghost use Rattle.c_syntax.specs.Scopes.{expr_adds};
 ghost use Rattle.c_syntax.specs.View.{expr_of};
@@ -69,7 +69,7 @@ fn between(mark: Punct) -> Option<Infix>
 
 /// The operator between two operands that the next token is.
 fn infix_of(tokens: &[Token]) -> Option<Infix>
-    ensures { result ≡ next_token.infix_of (reader.seen tokens.now) }
+    ensures { result ≡ next_token.infix_of (parser.next_body tokens.now) }
 {
     match tokens {
         [
@@ -85,7 +85,7 @@ fn infix_of(tokens: &[Token]) -> Option<Infix>
 
 /// Whether an operator comes next that may take this tree on its left, and stand where the level is wanted.
 fn goes_infix(level: u8, left: &Part<Expr>, tokens: &[Token]) -> bool
-    ensures { result ≡ spec.goes_infix level (expr_of left.now.node.value) (reader.seen tokens.now) }
+    ensures { result ≡ spec.goes_infix level (expr_of left.now.node.value) (parser.next_body tokens.now) }
 {
     match infix_of(tokens) {
         Some(operator) => level <= infix_level(operator)
@@ -100,7 +100,7 @@ fn goes_infix(level: u8, left: &Part<Expr>, tokens: &[Token]) -> bool
 
 /// An expression of a level.
 #[cycle(reading)]
-#[tactic(auto, unfolding(c_syntax::specs::ReadExpr::expr_at))]
+#[tactic(auto, unfolding(c_reading::specs::ReadExpr::expr_at))]
 pub(crate) fn expr_at<'a>(
     alloc: Global,
     scope: &mut Scope,
@@ -109,7 +109,7 @@ pub(crate) fn expr_at<'a>(
     tokens: &'a [Token],
 ) -> Result<(Part<Expr>, &'a [Token]), Fault<'a>>
     requires { k < 2 ^ 32 }
-    ensures reads { Gives (λ x. expr_of x.node.value) (spec.expr_at k (readers k) scope.old level tokens.now) result }
+    ensures reads { Gives (λ x. expr_of x.node.value) (spec.expr_at k (parsers k) scope.old level tokens.now) result }
     ensures height { IfOk result (λ x. (x.0.height ≡ height (expr_of x.0.node.value)) × (x.0.height ≤ k + 1)) }
     ensures scope { IfOk result (λ x. scope.new ≡ scope.old ++ expr_adds (expr_of x.0.node.value)) }
 {
@@ -130,9 +130,13 @@ fn infixes<'a>(
     requires small { k < 2 ^ 32 }
     requires known { left.height ≡ height (expr_of left.node.value) }
     requires within { left.height ≤ k + 1 }
-    ensures reads { (outer : names.Scope) → scope.old ≡ outer ++ expr_adds (expr_of left.node.value) → Gives (λ x. expr_of x.node.value) (spec.infixes k (readers k) outer level (expr_of left.node.value) tokens.now) result }
+    ensures reads { (outer : names.Scope) → scope.old ≡ outer ++ expr_adds (expr_of left.node.value)
+        → Gives (λ x. expr_of x.node.value)
+        (spec.infixes k (parsers k) outer level (expr_of left.node.value) tokens.now) result }
     ensures height { IfOk result (λ x. (x.0.height ≡ height (expr_of x.0.node.value)) × (x.0.height ≤ k + 1)) }
-    ensures scope { IfOk result (λ x. (outer : names.Scope) → scope.old ≡ outer ++ expr_adds (expr_of left.node.value) → scope.new ≡ outer ++ expr_adds (expr_of x.0.node.value)) }
+    ensures scope { IfOk result (λ x. (outer : names.Scope)
+        → scope.old ≡ outer ++ expr_adds (expr_of left.node.value)
+        → scope.new ≡ outer ++ expr_adds (expr_of x.0.node.value)) }
 {
     let mut rest = tokens;
     'operators: while goes_infix(level, &left, rest) {
@@ -148,7 +152,7 @@ fn infixes<'a>(
 
 /// The operator that follows, and its other operands.
 #[cycle(reading)]
-#[tactic(auto, unfolding(c_syntax::specs::ReadExpr::infix_on, c_syntax::specs::ReadExpr::between_on))]
+#[tactic(auto, unfolding(c_reading::specs::ReadExpr::infix_on, c_reading::specs::ReadExpr::between_on))]
 fn infix_on<'a>(
     alloc: Global,
     scope: &mut Scope,
@@ -159,9 +163,14 @@ fn infix_on<'a>(
     requires small { k < 2 ^ 32 }
     requires known { left.height ≡ height (expr_of left.node.value) }
     requires within { left.height ≤ k }
-    ensures reads { (outer : names.Scope) → scope.old ≡ outer ++ expr_adds (expr_of left.node.value) → Gives (λ x. expr_of x.node.value) (spec.infix_on k (readers k) outer (expr_of left.node.value) tokens.now) result }
-    ensures height { IfOk result (λ x. (x.0.height ≡ height (expr_of x.0.node.value)) × (left.height < x.0.height) × (x.0.height ≤ k + 1)) }
-    ensures scope { IfOk result (λ x. (outer : names.Scope) → scope.old ≡ outer ++ expr_adds (expr_of left.node.value) → scope.new ≡ outer ++ expr_adds (expr_of x.0.node.value)) }
+    ensures reads { (outer : names.Scope) → scope.old ≡ outer ++ expr_adds (expr_of left.node.value)
+        → Gives (λ x. expr_of x.node.value) (spec.infix_on k (parsers k) outer (expr_of left.node.value) tokens.now)
+        result }
+    ensures height { IfOk result (λ x. (x.0.height ≡ height (expr_of x.0.node.value)) × (left.height < x.0.height)
+        × (x.0.height ≤ k + 1)) }
+    ensures scope { IfOk result (λ x. (outer : names.Scope)
+        → scope.old ≡ outer ++ expr_adds (expr_of left.node.value)
+        → scope.new ≡ outer ++ expr_adds (expr_of x.0.node.value)) }
 {
     match infix_of(tokens) {
         Some(operator) => between_on(alloc, scope, k, left, place(tokens), operator, tail(tokens)),
@@ -183,9 +192,13 @@ fn between_on<'a>(
     requires small { k < 2 ^ 32 }
     requires known { left.height ≡ height (expr_of left.node.value) }
     requires within { left.height ≤ k }
-    ensures reads { Gives (λ x. expr_of x.node.value) (spec.between_in k (readers k) scope.old (expr_of left.node.value) pos operator tokens.now) result }
-    ensures height { IfOk result (λ x. (x.0.height ≡ height (expr_of x.0.node.value)) × (left.height < x.0.height) × (x.0.height ≤ k + 1)) }
-    ensures scope { IfOk result (λ x. (outer : names.Scope) → scope.old ≡ outer ++ expr_adds (expr_of left.node.value) → scope.new ≡ outer ++ expr_adds (expr_of x.0.node.value)) }
+    ensures reads { Gives (λ x. expr_of x.node.value)
+        (spec.between_in k (parsers k) scope.old (expr_of left.node.value) pos operator tokens.now) result }
+    ensures height { IfOk result (λ x. (x.0.height ≡ height (expr_of x.0.node.value)) × (left.height < x.0.height)
+        × (x.0.height ≤ k + 1)) }
+    ensures scope { IfOk result (λ x. (outer : names.Scope)
+        → scope.old ≡ outer ++ expr_adds (expr_of left.node.value)
+        → scope.new ≡ outer ++ expr_adds (expr_of x.0.node.value)) }
 {
     let (right, rest) = expr(alloc, scope, k, right_level(operator), tokens)?;
     let part = operator::infix(alloc, pos, operator, left, right)?;
@@ -194,7 +207,7 @@ fn between_on<'a>(
 
 /// The second and third operand of the conditional operator (6.5.15).
 #[cycle(reading)]
-#[tactic(auto, unfolding(c_syntax::specs::ReadExpr::cond_on))]
+#[tactic(auto, unfolding(c_reading::specs::ReadExpr::cond_on))]
 fn cond_on<'a>(
     alloc: Global,
     scope: &mut Scope,
@@ -206,9 +219,14 @@ fn cond_on<'a>(
     requires small { k < 2 ^ 32 }
     requires known { left.height ≡ height (expr_of left.node.value) }
     requires within { left.height ≤ k }
-    ensures reads { (outer : names.Scope) → scope.old ≡ outer ++ expr_adds (expr_of left.node.value) → Gives (λ x. expr_of x.node.value) (spec.cond_on k (readers k) outer (expr_of left.node.value) pos tokens.now) result }
-    ensures height { IfOk result (λ x. (x.0.height ≡ height (expr_of x.0.node.value)) × (left.height < x.0.height) × (x.0.height ≤ k + 1)) }
-    ensures scope { IfOk result (λ x. (outer : names.Scope) → scope.old ≡ outer ++ expr_adds (expr_of left.node.value) → scope.new ≡ outer ++ expr_adds (expr_of x.0.node.value)) }
+    ensures reads { (outer : names.Scope) → scope.old ≡ outer ++ expr_adds (expr_of left.node.value)
+        → Gives (λ x. expr_of x.node.value)
+        (spec.cond_on k (parsers k) outer (expr_of left.node.value) pos tokens.now) result }
+    ensures height { IfOk result (λ x. (x.0.height ≡ height (expr_of x.0.node.value)) × (left.height < x.0.height)
+        × (x.0.height ≤ k + 1)) }
+    ensures scope { IfOk result (λ x. (outer : names.Scope)
+        → scope.old ≡ outer ++ expr_adds (expr_of left.node.value)
+        → scope.new ≡ outer ++ expr_adds (expr_of x.0.node.value)) }
 {
     let (then, rest) = expr(alloc, scope, k, EXPRESSION, tokens)?;
     let rest = expect(rest, Punct::Colon)?;

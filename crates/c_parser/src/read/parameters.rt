@@ -3,8 +3,8 @@
 ghost use Rattle.std.specs.Prelude.{◌≡◌, map, ◌^◌, ◌≤◌, ◌<◌, ◌++◌, IfOk};
 ghost use Rattle.c_parser.specs.Agree.{Gives};
 ghost use Rattle.c_syntax.specs.Height.{parameters_height};
-ghost use Rattle.c_syntax.specs.ReadDeclarator as spec;
-ghost use Rattle.c_syntax.specs.ReadSpecifier.{readers};
+ghost use Rattle.c_reading.specs.ReadDeclarator as spec;
+ghost use Rattle.c_reading.specs.ReadSpecifier.{parsers};
 ghost use Rattle.c_syntax.specs.Scopes.{parameters_add};
 ghost use Rattle.c_syntax.specs.View.{parameter_of, parameters};
 
@@ -26,7 +26,7 @@ pub(crate) struct ParameterList {
 
 /// Behind the opening parenthesis.
 #[cycle(reading)]
-#[tactic(auto, unfolding(c_syntax::specs::ReadDeclarator::parameters_at))]
+#[tactic(auto, unfolding(c_reading::specs::ReadDeclarator::parameters_at))]
 pub(crate) fn parameters_at<'a>(
     alloc: Global,
     scope: &mut Scope,
@@ -34,9 +34,13 @@ pub(crate) fn parameters_at<'a>(
     tokens: &'a [Token],
 ) -> Result<(ParameterList, &'a [Token]), Fault<'a>>
     requires { k < 2 ^ 32 }
-    ensures reads { Gives (λ x. (parameters (map parameter_of x.all.nodes.items), x.variadic)) (spec.parameters_at k (readers k) scope.old tokens.now) result }
-    ensures height { IfOk result (λ x. (x.0.all.height ≡ parameters_height (parameters (map parameter_of x.0.all.nodes.items))) × (x.0.all.height ≤ k)) }
-    ensures scope { IfOk result (λ x. scope.new ≡ scope.old ++ parameters_add (parameters (map parameter_of x.0.all.nodes.items))) }
+    ensures reads { Gives (λ x. (parameters (map parameter_of x.all.nodes.items), x.variadic))
+        (spec.parameters_at k (parsers k) scope.old tokens.now) result }
+    ensures height { IfOk result (λ x. (x.0.all.height ≡
+        parameters_height (parameters (map parameter_of x.0.all.nodes.items)))
+        × (x.0.all.height ≤ k)) }
+    ensures scope { IfOk result (λ x. scope.new
+        ≡ scope.old ++ parameters_add (parameters (map parameter_of x.0.all.nodes.items))) }
 {
     match tokens {
         [
@@ -69,9 +73,13 @@ pub(crate) fn listed_parameters<'a>(
     tokens: &'a [Token],
 ) -> Result<(ParameterList, &'a [Token]), Fault<'a>>
     requires { k < 2 ^ 32 }
-    ensures reads { Gives (λ x. (map parameter_of x.all.nodes.items, x.variadic)) (spec.listed_parameters k (readers k) scope.old tokens.now) result }
-    ensures height { IfOk result (λ x. (x.0.all.height ≡ parameters_height (parameters (map parameter_of x.0.all.nodes.items))) × (x.0.all.height ≤ k)) }
-    ensures scope { IfOk result (λ x. scope.new ≡ scope.old ++ parameters_add (parameters (map parameter_of x.0.all.nodes.items))) }
+    ensures reads { Gives (λ x. (map parameter_of x.all.nodes.items, x.variadic))
+        (spec.listed_parameters k (parsers k) scope.old tokens.now) result }
+    ensures height { IfOk result (λ x. (x.0.all.height ≡
+        parameters_height (parameters (map parameter_of x.0.all.nodes.items)))
+        × (x.0.all.height ≤ k)) }
+    ensures scope { IfOk result (λ x. scope.new
+        ≡ scope.old ++ parameters_add (parameters (map parameter_of x.0.all.nodes.items))) }
 {
     let mut all = Parts::new(alloc);
     let mut rest = tokens;

@@ -1,8 +1,10 @@
+//! Adjacent string literals (6.4.5p5).
+
 ghost use Rattle.std.specs.Prelude.{◌≡◌, true, false, IfSome, IfNone};
 ghost use Rattle.c_parser.specs.Agree.{Gives};
-ghost use Rattle.c_syntax.specs.ReadExpr as spec;
-ghost use Rattle.c_syntax.specs.Reader as reader;
-ghost use Rattle.c_syntax.specs.ReadToken.{is_literal};
+ghost use Rattle.c_reading.specs.ReadExpr as spec;
+ghost use Rattle.c_reading.specs.Parser as parser;
+ghost use Rattle.c_reading.specs.ReadToken.{is_literal};
 
 use crate::fault::Fault;
 use crate::next::tail;
@@ -10,11 +12,11 @@ use c_lexer::{Body, Token, Units};
 use std::alloc::Global;
 
 /// The units of the string literal of this width that stands next.
-#[tactic(auto, unfolding(c_syntax::specs::ReadExpr::piece))]
+#[tactic(auto, unfolding(c_reading::specs::ReadExpr::piece))]
 fn literal(tokens: &[Token], wide: bool) -> Option<&Units>
-    ensures none { IfNone result (is_literal wide (reader.seen tokens.now) ≡ false) }
-    ensures here { IfSome result (λ units. is_literal wide (reader.seen tokens.now) ≡ true) }
-    ensures units { IfSome result (λ units. spec.piece tokens.now ≡ reader.Found units.now (reader.tail tokens.now)) }
+    ensures none { IfNone result (is_literal wide (parser.next_body tokens.now) ≡ false) }
+    ensures here { IfSome result (λ units. is_literal wide (parser.next_body tokens.now) ≡ true) }
+    ensures units { IfSome result (λ units. spec.piece tokens.now ≡ parser.Found units.now (parser.tail tokens.now)) }
 {
     match tokens {
         [

@@ -3,9 +3,9 @@
 ghost use Rattle.std.specs.Prelude.{◌≡◌, false, map, ◌+◌, ◌^◌, ◌≤◌, ◌<◌, ◌++◌, IfOk};
 ghost use Rattle.c_parser.specs.Agree.{Gives};
 ghost use Rattle.c_syntax.specs.Height.{height, exprs_height};
-ghost use Rattle.c_syntax.specs.Reader.{seen};
-ghost use Rattle.c_syntax.specs.ReadExpr as spec;
-ghost use Rattle.c_syntax.specs.ReadSpecifier.{readers};
+ghost use Rattle.c_reading.specs.Parser.{next_body};
+ghost use Rattle.c_reading.specs.ReadExpr as spec;
+ghost use Rattle.c_reading.specs.ReadSpecifier.{parsers};
 ghost use Rattle.c_syntax.specs.Scopes as names;
 ghost use Rattle.c_syntax.specs.Scopes.{expr_adds, exprs_add};
 ghost use Rattle.c_syntax.specs.Tree as trees;
@@ -26,7 +26,7 @@ use std::alloc::Global;
 
 /// Whether a postfix operator follows.
 fn goes_postfix(tokens: &[Token]) -> bool
-    ensures { (left : trees.Expr) → result ≡ spec.goes_postfix left (seen tokens.now) }
+    ensures { (left : trees.Expr) → result ≡ spec.goes_postfix left (next_body tokens.now) }
 {
     matches!(
         tokens,
@@ -59,9 +59,13 @@ pub(crate) fn postfixes<'a>(
     requires small { k < 2 ^ 32 }
     requires known { left.height ≡ height (expr_of left.node.value) }
     requires within { left.height ≤ k + 1 }
-    ensures reads { (outer : names.Scope) → scope.old ≡ outer ++ expr_adds (expr_of left.node.value) → Gives (λ x. expr_of x.node.value) (spec.postfixes k (readers k) outer (expr_of left.node.value) tokens.now) result }
+    ensures reads { (outer : names.Scope) → scope.old ≡ outer ++ expr_adds (expr_of left.node.value)
+        → Gives (λ x. expr_of x.node.value)
+        (spec.postfixes k (parsers k) outer (expr_of left.node.value) tokens.now) result }
     ensures height { IfOk result (λ x. (x.0.height ≡ height (expr_of x.0.node.value)) × (x.0.height ≤ k + 1)) }
-    ensures scope { IfOk result (λ x. (outer : names.Scope) → scope.old ≡ outer ++ expr_adds (expr_of left.node.value) → scope.new ≡ outer ++ expr_adds (expr_of x.0.node.value)) }
+    ensures scope { IfOk result (λ x. (outer : names.Scope)
+        → scope.old ≡ outer ++ expr_adds (expr_of left.node.value)
+        → scope.new ≡ outer ++ expr_adds (expr_of x.0.node.value)) }
 {
     let mut rest = tokens;
     'operators: while goes_postfix(rest) {
@@ -77,7 +81,7 @@ pub(crate) fn postfixes<'a>(
 
 /// The postfix operator that follows.
 #[cycle(reading)]
-#[tactic(auto, unfolding(c_syntax::specs::ReadExpr::postfix_on, c_syntax::specs::ReadExpr::index, c_syntax::specs::ReadExpr::call))]
+#[tactic(auto, unfolding(c_reading::specs::ReadExpr::postfix_on, c_reading::specs::ReadExpr::index, c_reading::specs::ReadExpr::call))]
 fn postfix_on<'a>(
     alloc: Global,
     scope: &mut Scope,
@@ -88,9 +92,14 @@ fn postfix_on<'a>(
     requires small { k < 2 ^ 32 }
     requires known { left.height ≡ height (expr_of left.node.value) }
     requires within { left.height ≤ k }
-    ensures reads { (outer : names.Scope) → scope.old ≡ outer ++ expr_adds (expr_of left.node.value) → Gives (λ x. expr_of x.node.value) (spec.postfix_on k (readers k) outer (expr_of left.node.value) tokens.now) result }
-    ensures height { IfOk result (λ x. (x.0.height ≡ height (expr_of x.0.node.value)) × (left.height < x.0.height) × (x.0.height ≤ k + 1)) }
-    ensures scope { IfOk result (λ x. (outer : names.Scope) → scope.old ≡ outer ++ expr_adds (expr_of left.node.value) → scope.new ≡ outer ++ expr_adds (expr_of x.0.node.value)) }
+    ensures reads { (outer : names.Scope) → scope.old ≡ outer ++ expr_adds (expr_of left.node.value)
+        → Gives (λ x. expr_of x.node.value)
+        (spec.postfix_on k (parsers k) outer (expr_of left.node.value) tokens.now) result }
+    ensures height { IfOk result (λ x. (x.0.height ≡ height (expr_of x.0.node.value)) × (left.height < x.0.height)
+        × (x.0.height ≤ k + 1)) }
+    ensures scope { IfOk result (λ x. (outer : names.Scope)
+        → scope.old ≡ outer ++ expr_adds (expr_of left.node.value)
+        → scope.new ≡ outer ++ expr_adds (expr_of x.0.node.value)) }
 {
     match tokens {
         [
@@ -151,9 +160,13 @@ fn index<'a>(
     requires small { k < 2 ^ 32 }
     requires known { left.height ≡ height (expr_of left.node.value) }
     requires within { left.height ≤ k }
-    ensures reads { Gives (λ x. expr_of x.node.value) (spec.index_in k (readers k) scope.old (expr_of left.node.value) tokens.now) result }
-    ensures height { IfOk result (λ x. (x.0.height ≡ height (expr_of x.0.node.value)) × (left.height < x.0.height) × (x.0.height ≤ k + 1)) }
-    ensures scope { IfOk result (λ x. (outer : names.Scope) → scope.old ≡ outer ++ expr_adds (expr_of left.node.value) → scope.new ≡ outer ++ expr_adds (expr_of x.0.node.value)) }
+    ensures reads { Gives (λ x. expr_of x.node.value)
+        (spec.index_in k (parsers k) scope.old (expr_of left.node.value) tokens.now) result }
+    ensures height { IfOk result (λ x. (x.0.height ≡ height (expr_of x.0.node.value)) × (left.height < x.0.height)
+        × (x.0.height ≤ k + 1)) }
+    ensures scope { IfOk result (λ x. (outer : names.Scope)
+        → scope.old ≡ outer ++ expr_adds (expr_of left.node.value)
+        → scope.new ≡ outer ++ expr_adds (expr_of x.0.node.value)) }
 {
     let (inside, rest) = expr(alloc, scope, k, EXPRESSION, tail(tokens))?;
     let rest = expect(rest, Punct::CloseBracket)?;
@@ -173,9 +186,13 @@ fn call<'a>(
     requires small { k < 2 ^ 32 }
     requires known { left.height ≡ height (expr_of left.node.value) }
     requires within { left.height ≤ k }
-    ensures reads { Gives (λ x. expr_of x.node.value) (spec.call_in k (readers k) scope.old (expr_of left.node.value) tokens.now) result }
-    ensures height { IfOk result (λ x. (x.0.height ≡ height (expr_of x.0.node.value)) × (left.height < x.0.height) × (x.0.height ≤ k + 1)) }
-    ensures scope { IfOk result (λ x. (outer : names.Scope) → scope.old ≡ outer ++ expr_adds (expr_of left.node.value) → scope.new ≡ outer ++ expr_adds (expr_of x.0.node.value)) }
+    ensures reads { Gives (λ x. expr_of x.node.value)
+        (spec.call_in k (parsers k) scope.old (expr_of left.node.value) tokens.now) result }
+    ensures height { IfOk result (λ x. (x.0.height ≡ height (expr_of x.0.node.value)) × (left.height < x.0.height)
+        × (x.0.height ≤ k + 1)) }
+    ensures scope { IfOk result (λ x. (outer : names.Scope)
+        → scope.old ≡ outer ++ expr_adds (expr_of left.node.value)
+        → scope.new ≡ outer ++ expr_adds (expr_of x.0.node.value)) }
 {
     let (all, rest) = arguments(alloc, scope, k, tail(tokens))?;
     let part = operator::call(alloc, place(tokens), left, all)?;
@@ -184,7 +201,7 @@ fn call<'a>(
 
 /// What stands behind the opening parenthesis of a call.
 #[cycle(reading)]
-#[tactic(auto, unfolding(c_syntax::specs::ReadExpr::arguments))]
+#[tactic(auto, unfolding(c_reading::specs::ReadExpr::arguments))]
 fn arguments<'a>(
     alloc: Global,
     scope: &mut Scope,
@@ -192,8 +209,10 @@ fn arguments<'a>(
     tokens: &'a [Token],
 ) -> Result<(Parts<Expr>, &'a [Token]), Fault<'a>>
     requires { k < 2 ^ 32 }
-    ensures reads { Gives (λ x. exprs (map expr_of x.nodes.items)) (spec.arguments k (readers k) scope.old tokens.now) result }
-    ensures height { IfOk result (λ x. (x.0.height ≡ exprs_height (exprs (map expr_of x.0.nodes.items))) × (x.0.height ≤ k)) }
+    ensures reads { Gives (λ x. exprs (map expr_of x.nodes.items))
+        (spec.arguments k (parsers k) scope.old tokens.now) result }
+    ensures height { IfOk result (λ x. (x.0.height ≡ exprs_height (exprs (map expr_of x.0.nodes.items)))
+        × (x.0.height ≤ k)) }
     ensures scope { IfOk result (λ x. scope.new ≡ scope.old ++ exprs_add (exprs (map expr_of x.0.nodes.items))) }
 {
     match tokens {
@@ -213,7 +232,7 @@ fn arguments<'a>(
 }
 
 /// A member by its name (6.5.2.3).
-#[tactic(auto, unfolding(c_syntax::specs::ReadExpr::access_name))]
+#[tactic(auto, unfolding(c_reading::specs::ReadExpr::access_name))]
 fn access_name(
     alloc: Global,
     left: Part<Expr>,
@@ -222,8 +241,10 @@ fn access_name(
 ) -> Result<(Part<Expr>, &[Token]), Fault<'_>>
     requires known { left.height ≡ height (expr_of left.node.value) }
     requires within { left.height + 1 < 2 ^ 64 }
-    ensures reads { Gives (λ x. expr_of x.node.value) (spec.access_name access (expr_of left.node.value) tokens.now) result }
-    ensures height { IfOk result (λ x. (x.0.height ≡ height (expr_of x.0.node.value)) × (x.0.height ≡ left.height + 1)) }
+    ensures reads { Gives (λ x. expr_of x.node.value) (spec.access_name access (expr_of left.node.value) tokens.now)
+        result }
+    ensures height { IfOk result (λ x. (x.0.height ≡ height (expr_of x.0.node.value))
+        × (x.0.height ≡ left.height + 1)) }
     ensures adds { IfOk result (λ x. expr_adds (expr_of x.0.node.value) ≡ expr_adds (expr_of left.node.value)) }
 {
     match tail(tokens) {
@@ -243,7 +264,7 @@ fn access_name(
 }
 
 /// `++` or `--` behind its operand (6.5.2.4).
-#[tactic(auto, unfolding(c_syntax::specs::ReadExpr::step_by_one))]
+#[tactic(auto, unfolding(c_reading::specs::ReadExpr::step_by_one))]
 fn step_by_one(
     alloc: Global,
     left: Part<Expr>,
@@ -252,8 +273,10 @@ fn step_by_one(
 ) -> Result<(Part<Expr>, &[Token]), Fault<'_>>
     requires known { left.height ≡ height (expr_of left.node.value) }
     requires within { left.height + 1 < 2 ^ 64 }
-    ensures reads { Gives (λ x. expr_of x.node.value) (spec.step_by_one step (expr_of left.node.value) tokens.now) result }
-    ensures height { IfOk result (λ x. (x.0.height ≡ height (expr_of x.0.node.value)) × (x.0.height ≡ left.height + 1)) }
+    ensures reads { Gives (λ x. expr_of x.node.value) (spec.step_by_one step (expr_of left.node.value) tokens.now)
+        result }
+    ensures height { IfOk result (λ x. (x.0.height ≡ height (expr_of x.0.node.value))
+        × (x.0.height ≡ left.height + 1)) }
     ensures adds { IfOk result (λ x. expr_adds (expr_of x.0.node.value) ≡ expr_adds (expr_of left.node.value)) }
 {
     let part = operator::postfix(alloc, place(tokens), step, left)?;
@@ -269,8 +292,11 @@ fn listed_arguments<'a>(
     tokens: &'a [Token],
 ) -> Result<(Parts<Expr>, &'a [Token]), Fault<'a>>
     requires { k < 2 ^ 32 }
-    ensures reads { Gives (λ x. (map expr_of x.nodes.items, false)) (spec.listed_arguments k (readers k) scope.old tokens.now) result }
-    ensures height { IfOk result (λ x. (x.0.height ≡ exprs_height (exprs (map expr_of x.0.nodes.items))) × (x.0.height ≤ k)) }
+    ensures reads { Gives (λ x. (map expr_of x.nodes.items, false))
+        (spec.listed_arguments k (parsers k) scope.old tokens.now)
+        result }
+    ensures height { IfOk result (λ x. (x.0.height ≡ exprs_height (exprs (map expr_of x.0.nodes.items)))
+        × (x.0.height ≤ k)) }
     ensures scope { IfOk result (λ x. scope.new ≡ scope.old ++ exprs_add (exprs (map expr_of x.0.nodes.items))) }
 {
     let mut all = Parts::new(alloc);

@@ -1,7 +1,7 @@
 //! Type qualifiers (6.7.3).
 
 ghost use Rattle.c_parser.specs.Agree.{Gives};
-ghost use Rattle.c_syntax.specs.ReadDeclarator as spec;
+ghost use Rattle.c_reading.specs.ReadDeclarator as spec;
 ghost use Rattle.c_syntax.specs.Scopes as names;
 
 use crate::fault::Fault;

@@ -4,10 +4,10 @@ ghost use Rattle.std.specs.Prelude.{◌≡◌, ◌+◌, ◌^◌, ◌≤◌, ◌<
 ghost use Rattle.c_parser.specs.Agree.{Gives};
 ghost use Rattle.c_syntax.specs.Height.{height, declarator_height};
 ghost use Rattle.c_syntax.specs.Levels.{conditional};
-ghost use Rattle.c_syntax.specs.Reader.{seen};
-ghost use Rattle.c_syntax.specs.ReadDeclarator as spec;
-ghost use Rattle.c_syntax.specs.ReadExpr.{wanted};
-ghost use Rattle.c_syntax.specs.ReadSpecifier.{readers};
+ghost use Rattle.c_reading.specs.Parser.{next_body};
+ghost use Rattle.c_reading.specs.ReadDeclarator as spec;
+ghost use Rattle.c_reading.specs.ReadExpr.{expr_lower};
+ghost use Rattle.c_reading.specs.ReadSpecifier.{parsers};
 ghost use Rattle.c_syntax.specs.Scopes as names;
 ghost use Rattle.c_syntax.specs.Scopes.{expr_adds, declarator_adds};
 ghost use Rattle.c_syntax.specs.Tree as trees;
@@ -29,7 +29,7 @@ use std::alloc::Global;
 
 /// Whether an array or function declarator follows.
 fn goes_suffix(tokens: &[Token]) -> bool
-    ensures { (left : trees.Declarator) → result ≡ spec.goes_suffix left (seen tokens.now) }
+    ensures { (left : trees.Declarator) → result ≡ spec.goes_suffix left (next_body tokens.now) }
 {
     matches!(
         tokens,
@@ -56,9 +56,14 @@ pub(crate) fn suffixes<'a>(
     requires known { left.height ≡ declarator_height (declarator_of left.node.value) }
     requires some { 0 < left.height }
     requires within { left.height ≤ k + 1 }
-    ensures reads { (outer : names.Scope) → scope.old ≡ outer ++ declarator_adds (declarator_of left.node.value) → Gives (λ x. declarator_of x.node.value) (spec.suffixes k (readers k) outer (declarator_of left.node.value) tokens.now) result }
-    ensures height { IfOk result (λ x. (x.0.height ≡ declarator_height (declarator_of x.0.node.value)) × (x.0.height ≤ k + 1)) }
-    ensures scope { IfOk result (λ x. (outer : names.Scope) → scope.old ≡ outer ++ declarator_adds (declarator_of left.node.value) → scope.new ≡ outer ++ declarator_adds (declarator_of x.0.node.value)) }
+    ensures reads { (outer : names.Scope) → scope.old ≡ outer ++ declarator_adds (declarator_of left.node.value)
+        → Gives (λ x. declarator_of x.node.value)
+        (spec.suffixes k (parsers k) outer (declarator_of left.node.value) tokens.now) result }
+    ensures height { IfOk result (λ x. (x.0.height ≡ declarator_height (declarator_of x.0.node.value))
+        × (x.0.height ≤ k + 1)) }
+    ensures scope { IfOk result (λ x. (outer : names.Scope)
+        → scope.old ≡ outer ++ declarator_adds (declarator_of left.node.value)
+        → scope.new ≡ outer ++ declarator_adds (declarator_of x.0.node.value)) }
 {
     let mut rest = tokens;
     'each: while goes_suffix(rest) {
@@ -74,7 +79,7 @@ pub(crate) fn suffixes<'a>(
 
 /// The next array or function.
 #[cycle(reading)]
-#[tactic(auto, unfolding(c_syntax::specs::ReadDeclarator::suffix_on, c_syntax::specs::ReadDeclarator::array_on, c_syntax::specs::ReadDeclarator::function_on))]
+#[tactic(auto, unfolding(c_reading::specs::ReadDeclarator::suffix_on, c_reading::specs::ReadDeclarator::array_on, c_reading::specs::ReadDeclarator::function_on))]
 pub(crate) fn suffix_on<'a>(
     alloc: Global,
     scope: &mut Scope,
@@ -85,9 +90,14 @@ pub(crate) fn suffix_on<'a>(
     requires small { k < 2 ^ 32 }
     requires known { left.height ≡ declarator_height (declarator_of left.node.value) }
     requires within { left.height ≤ k }
-    ensures reads { (outer : names.Scope) → scope.old ≡ outer ++ declarator_adds (declarator_of left.node.value) → Gives (λ x. declarator_of x.node.value) (spec.suffix_on k (readers k) outer (declarator_of left.node.value) tokens.now) result }
-    ensures height { IfOk result (λ x. (x.0.height ≡ declarator_height (declarator_of x.0.node.value)) × (left.height < x.0.height) × (x.0.height ≤ k + 1)) }
-    ensures scope { IfOk result (λ x. (outer : names.Scope) → scope.old ≡ outer ++ declarator_adds (declarator_of left.node.value) → scope.new ≡ outer ++ declarator_adds (declarator_of x.0.node.value)) }
+    ensures reads { (outer : names.Scope) → scope.old ≡ outer ++ declarator_adds (declarator_of left.node.value)
+        → Gives (λ x. declarator_of x.node.value)
+        (spec.suffix_on k (parsers k) outer (declarator_of left.node.value) tokens.now) result }
+    ensures height { IfOk result (λ x. (x.0.height ≡ declarator_height (declarator_of x.0.node.value))
+        × (left.height < x.0.height) × (x.0.height ≤ k + 1)) }
+    ensures scope { IfOk result (λ x. (outer : names.Scope)
+        → scope.old ≡ outer ++ declarator_adds (declarator_of left.node.value)
+        → scope.new ≡ outer ++ declarator_adds (declarator_of x.0.node.value)) }
 {
     match tokens {
         [
@@ -120,9 +130,13 @@ fn array_on<'a>(
     requires small { k < 2 ^ 32 }
     requires known { left.height ≡ declarator_height (declarator_of left.node.value) }
     requires within { left.height ≤ k }
-    ensures reads { Gives (λ x. declarator_of x.node.value) (spec.array_in k (readers k) scope.old (declarator_of left.node.value) tokens.now) result }
-    ensures height { IfOk result (λ x. (x.0.height ≡ declarator_height (declarator_of x.0.node.value)) × (left.height < x.0.height) × (x.0.height ≤ k + 1)) }
-    ensures scope { IfOk result (λ x. (outer : names.Scope) → scope.old ≡ outer ++ declarator_adds (declarator_of left.node.value) → scope.new ≡ outer ++ declarator_adds (declarator_of x.0.node.value)) }
+    ensures reads { Gives (λ x. declarator_of x.node.value)
+        (spec.array_in k (parsers k) scope.old (declarator_of left.node.value) tokens.now) result }
+    ensures height { IfOk result (λ x. (x.0.height ≡ declarator_height (declarator_of x.0.node.value))
+        × (left.height < x.0.height) × (x.0.height ≤ k + 1)) }
+    ensures scope { IfOk result (λ x. (outer : names.Scope)
+        → scope.old ≡ outer ++ declarator_adds (declarator_of left.node.value)
+        → scope.new ≡ outer ++ declarator_adds (declarator_of x.0.node.value)) }
 {
     match tokens {
         [
@@ -146,7 +160,7 @@ fn array_on<'a>(
 
 /// The length of an array, a constant expression (6.6).
 #[cycle(reading)]
-#[tactic(auto, unfolding(c_syntax::specs::ReadExpr::wanted))]
+#[tactic(auto, unfolding(c_reading::specs::ReadExpr::expr_lower))]
 fn length<'a>(
     alloc: Global,
     scope: &mut Scope,
@@ -154,7 +168,8 @@ fn length<'a>(
     tokens: &'a [Token],
 ) -> Result<(Part<Expr>, &'a [Token]), Fault<'a>>
     requires { k < 2 ^ 32 }
-    ensures reads { Gives (λ x. expr_of x.node.value) (wanted scope.old k ((readers k).expr scope.old conditional) tokens.now) result }
+    ensures reads { Gives (λ x. expr_of x.node.value)
+        (expr_lower scope.old k ((parsers k).expr scope.old conditional) tokens.now) result }
     ensures height { IfOk result (λ x. (x.0.height ≡ height (expr_of x.0.node.value)) × (x.0.height ≤ k)) }
     ensures scope { IfOk result (λ x. scope.new ≡ scope.old ++ expr_adds (expr_of x.0.node.value)) }
 {
@@ -179,9 +194,13 @@ fn function_on<'a>(
     requires small { k < 2 ^ 32 }
     requires known { left.height ≡ declarator_height (declarator_of left.node.value) }
     requires within { left.height ≤ k }
-    ensures reads { Gives (λ x. declarator_of x.node.value) (spec.function_in k (readers k) scope.old (declarator_of left.node.value) tokens.now) result }
-    ensures height { IfOk result (λ x. (x.0.height ≡ declarator_height (declarator_of x.0.node.value)) × (left.height < x.0.height) × (x.0.height ≤ k + 1)) }
-    ensures scope { IfOk result (λ x. (outer : names.Scope) → scope.old ≡ outer ++ declarator_adds (declarator_of left.node.value) → scope.new ≡ outer ++ declarator_adds (declarator_of x.0.node.value)) }
+    ensures reads { Gives (λ x. declarator_of x.node.value)
+        (spec.function_in k (parsers k) scope.old (declarator_of left.node.value) tokens.now) result }
+    ensures height { IfOk result (λ x. (x.0.height ≡ declarator_height (declarator_of x.0.node.value))
+        × (left.height < x.0.height) × (x.0.height ≤ k + 1)) }
+    ensures scope { IfOk result (λ x. (outer : names.Scope)
+        → scope.old ≡ outer ++ declarator_adds (declarator_of left.node.value)
+        → scope.new ≡ outer ++ declarator_adds (declarator_of x.0.node.value)) }
 {
     let outer = scope.len();
     let (list, rest) = parameters_at(alloc, scope, k, tokens)?;

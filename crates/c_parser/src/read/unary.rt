@@ -3,10 +3,10 @@
 ghost use Rattle.std.specs.Prelude.{◌≡◌, ◌+◌, ◌^◌, ◌≤◌, ◌<◌, ◌++◌, IfOk};
 ghost use Rattle.c_parser.specs.Agree.{Gives};
 ghost use Rattle.c_syntax.specs.Height.{height};
-ghost use Rattle.c_syntax.specs.ReadExpr as spec;
-ghost use Rattle.c_syntax.specs.ReadSpecifier.{readers};
-ghost use Rattle.c_syntax.specs.ReadToken.{prefix_of};
-ghost use Rattle.c_syntax.specs.Reader.{place, seen};
+ghost use Rattle.c_reading.specs.ReadExpr as spec;
+ghost use Rattle.c_reading.specs.ReadSpecifier.{parsers};
+ghost use Rattle.c_reading.specs.ReadToken.{prefix_of};
+ghost use Rattle.c_reading.specs.Parser.{place, next_body};
 ghost use Rattle.c_syntax.specs.Scopes.{expr_adds};
 ghost use Rattle.c_syntax.specs.Tree as tree;
 ghost use Rattle.c_syntax.specs.View.{expr_of};
@@ -17,7 +17,7 @@ use crate::level::{CAST, EXPRESSION, UNARY, operand_level};
 use crate::make::primary;
 use crate::next::{expect, is_mark, place, tail};
 use crate::part::Part;
-use crate::read::height::{expr, grouped, type_name};
+use crate::read::height::{expr, paren_expr, type_name};
 use crate::read::pieces::pieces;
 use crate::read::postfix::postfixes;
 use crate::scope::Scope;
@@ -29,15 +29,15 @@ use std::alloc::Global;
 
 /// An expression in parentheses, behind the first of them.
 #[cycle(reading)]
-#[tactic(auto, unfolding(c_syntax::specs::ReadExpr::grouped, c_syntax::specs::ReadExpr::wanted))]
-pub(crate) fn grouped_at<'a>(
+#[tactic(auto, unfolding(c_reading::specs::ReadExpr::paren_expr, c_reading::specs::ReadExpr::expr_lower))]
+pub(crate) fn paren_expr_at<'a>(
     alloc: Global,
     scope: &mut Scope,
     k: usize,
     tokens: &'a [Token],
 ) -> Result<(Part<Expr>, &'a [Token]), Fault<'a>>
     requires { k < 2 ^ 32 }
-    ensures reads { Gives (λ x. expr_of x.node.value) (spec.grouped k (readers k) scope.old tokens.now) result }
+    ensures reads { Gives (λ x. expr_of x.node.value) (spec.paren_expr k (parsers k) scope.old tokens.now) result }
     ensures height { IfOk result (λ x. (x.0.height ≡ height (expr_of x.0.node.value)) × (x.0.height ≤ k + 1)) }
     ensures scope { IfOk result (λ x. scope.new ≡ scope.old ++ expr_adds (expr_of x.0.node.value)) }
 {
@@ -55,7 +55,7 @@ pub(crate) fn grouped_at<'a>(
 
 /// A cast, behind its first parenthesis, which stands at this place.
 #[cycle(reading)]
-#[tactic(auto, unfolding(c_syntax::specs::ReadExpr::cast_on))]
+#[tactic(auto, unfolding(c_reading::specs::ReadExpr::cast_on))]
 fn cast_on<'a>(
     alloc: Global,
     scope: &mut Scope,
@@ -64,7 +64,7 @@ fn cast_on<'a>(
     tokens: &'a [Token],
 ) -> Result<(Part<Expr>, &'a [Token]), Fault<'a>>
     requires { k < 2 ^ 32 }
-    ensures reads { Gives (λ x. expr_of x.node.value) (spec.cast_on k (readers k) scope.old pos tokens.now) result }
+    ensures reads { Gives (λ x. expr_of x.node.value) (spec.cast_on k (parsers k) scope.old pos tokens.now) result }
     ensures height { IfOk result (λ x. (x.0.height ≡ height (expr_of x.0.node.value)) × (x.0.height ≤ k + 1)) }
     ensures scope { IfOk result (λ x. scope.new ≡ scope.old ++ expr_adds (expr_of x.0.node.value)) }
 {
@@ -77,7 +77,7 @@ fn cast_on<'a>(
 
 /// Behind a parenthesis that stands at this place: a cast, where one may stand, or an expression in parentheses.
 #[cycle(reading)]
-#[tactic(auto, unfolding(c_syntax::specs::ReadExpr::inside))]
+#[tactic(auto, unfolding(c_reading::specs::ReadExpr::inside))]
 fn inside<'a>(
     alloc: Global,
     scope: &mut Scope,
@@ -87,7 +87,8 @@ fn inside<'a>(
     tokens: &'a [Token],
 ) -> Result<(Part<Expr>, &'a [Token]), Fault<'a>>
     requires { k < 2 ^ 32 }
-    ensures reads { Gives (λ x. expr_of x.node.value) (spec.inside k (readers k) scope.old level pos tokens.now) result }
+    ensures reads { Gives (λ x. expr_of x.node.value) (spec.inside k (parsers k) scope.old level pos tokens.now)
+        result }
     ensures height { IfOk result (λ x. (x.0.height ≡ height (expr_of x.0.node.value)) × (x.0.height ≤ k + 1)) }
     ensures scope { IfOk result (λ x. scope.new ≡ scope.old ++ expr_adds (expr_of x.0.node.value)) }
 {
@@ -97,13 +98,13 @@ fn inside<'a>(
         }
         return Err(Fault::Unfit(tokens));
     }
-    grouped_at(alloc, scope, k, tokens)
+    paren_expr_at(alloc, scope, k, tokens)
 }
 
 /// A type name and the parenthesis behind it, for an operator at this place.
 #[cycle(reading)]
-#[tactic(auto, unfolding(c_syntax::specs::ReadExpr::measured))]
-fn measured<'a>(
+#[tactic(auto, unfolding(c_reading::specs::ReadExpr::type_measure))]
+fn type_measure<'a>(
     alloc: Global,
     scope: &mut Scope,
     k: usize,
@@ -112,7 +113,8 @@ fn measured<'a>(
     tokens: &'a [Token],
 ) -> Result<(Part<Expr>, &'a [Token]), Fault<'a>>
     requires { k < 2 ^ 32 }
-    ensures reads { Gives (λ x. expr_of x.node.value) (spec.measured k (readers k) scope.old operator pos tokens.now) result }
+    ensures reads { Gives (λ x. expr_of x.node.value)
+        (spec.type_measure k (parsers k) scope.old operator pos tokens.now) result }
     ensures height { IfOk result (λ x. (x.0.height ≡ height (expr_of x.0.node.value)) × (x.0.height ≤ k + 1)) }
     ensures scope { IfOk result (λ x. scope.new ≡ scope.old ++ expr_adds (expr_of x.0.node.value)) }
 {
@@ -124,8 +126,8 @@ fn measured<'a>(
 
 /// Behind `sizeof`, at this place, and a parenthesis: a type name, or an operand that begins with the parenthesis.
 #[cycle(reading)]
-#[tactic(auto, unfolding(c_syntax::specs::ReadExpr::sized))]
-fn sized<'a>(
+#[tactic(auto, unfolding(c_reading::specs::ReadExpr::size_behind_paren))]
+fn size_behind_paren<'a>(
     alloc: Global,
     scope: &mut Scope,
     k: usize,
@@ -133,21 +135,22 @@ fn sized<'a>(
     tokens: &'a [Token],
 ) -> Result<(Part<Expr>, &'a [Token]), Fault<'a>>
     requires { k < 2 ^ 32 }
-    ensures reads { Gives (λ x. expr_of x.node.value) (spec.sized k (readers k) scope.old pos tokens.now) result }
+    ensures reads { Gives (λ x. expr_of x.node.value)
+        (spec.size_behind_paren k (parsers k) scope.old pos tokens.now) result }
     ensures height { IfOk result (λ x. (x.0.height ≡ height (expr_of x.0.node.value)) × (x.0.height ≤ k + 1)) }
     ensures scope { IfOk result (λ x. scope.new ≡ scope.old ++ expr_adds (expr_of x.0.node.value)) }
 {
     if begins_type(scope, tokens) {
-        return measured(alloc, scope, k, Measure::SizeType, pos, tokens);
+        return type_measure(alloc, scope, k, Measure::SizeType, pos, tokens);
     }
-    let (operand, rest) = grouped(alloc, scope, k, tokens)?;
+    let (operand, rest) = paren_expr(alloc, scope, k, tokens)?;
     let whole = primary::prefix(alloc, pos, Prefix::SizeExpr, operand)?;
     Ok((whole, rest))
 }
 
 /// Behind `sizeof`, which stands at this place.
 #[cycle(reading)]
-#[tactic(auto, unfolding(c_syntax::specs::ReadExpr::size))]
+#[tactic(auto, unfolding(c_reading::specs::ReadExpr::size))]
 fn size<'a>(
     alloc: Global,
     scope: &mut Scope,
@@ -156,12 +159,12 @@ fn size<'a>(
     tokens: &'a [Token],
 ) -> Result<(Part<Expr>, &'a [Token]), Fault<'a>>
     requires { k < 2 ^ 32 }
-    ensures reads { Gives (λ x. expr_of x.node.value) (spec.size k (readers k) scope.old pos tokens.now) result }
+    ensures reads { Gives (λ x. expr_of x.node.value) (spec.size k (parsers k) scope.old pos tokens.now) result }
     ensures height { IfOk result (λ x. (x.0.height ≡ height (expr_of x.0.node.value)) × (x.0.height ≤ k + 1)) }
     ensures scope { IfOk result (λ x. scope.new ≡ scope.old ++ expr_adds (expr_of x.0.node.value)) }
 {
     if is_mark(tokens, Punct::OpenParen) {
-        return sized(alloc, scope, k, pos, tail(tokens));
+        return size_behind_paren(alloc, scope, k, pos, tail(tokens));
     }
     let (operand, rest) = expr(alloc, scope, k, UNARY, tokens)?;
     let whole = primary::prefix(alloc, pos, Prefix::SizeExpr, operand)?;
@@ -170,7 +173,7 @@ fn size<'a>(
 
 /// Behind `_Alignof`, which stands at this place.
 #[cycle(reading)]
-#[tactic(auto, unfolding(c_syntax::specs::ReadExpr::alignment))]
+#[tactic(auto, unfolding(c_reading::specs::ReadExpr::alignment))]
 fn alignment<'a>(
     alloc: Global,
     scope: &mut Scope,
@@ -179,25 +182,27 @@ fn alignment<'a>(
     tokens: &'a [Token],
 ) -> Result<(Part<Expr>, &'a [Token]), Fault<'a>>
     requires { k < 2 ^ 32 }
-    ensures reads { Gives (λ x. expr_of x.node.value) (spec.alignment k (readers k) scope.old pos tokens.now) result }
+    ensures reads { Gives (λ x. expr_of x.node.value) (spec.alignment k (parsers k) scope.old pos tokens.now) result }
     ensures height { IfOk result (λ x. (x.0.height ≡ height (expr_of x.0.node.value)) × (x.0.height ≤ k + 1)) }
     ensures scope { IfOk result (λ x. scope.new ≡ scope.old ++ expr_adds (expr_of x.0.node.value)) }
 {
     let rest = expect(tokens, Punct::OpenParen)?;
-    measured(alloc, scope, k, Measure::AlignType, pos, rest)
+    type_measure(alloc, scope, k, Measure::AlignType, pos, rest)
 }
 
 /// A prefix operator and its operand.
 #[cycle(reading)]
-#[tactic(auto, unfolding(c_syntax::specs::ReadExpr::prefixed))]
-fn prefixed<'a>(
+#[tactic(auto, unfolding(c_reading::specs::ReadExpr::prefix_expr))]
+fn prefix_expr<'a>(
     alloc: Global,
     scope: &mut Scope,
     k: usize,
     tokens: &'a [Token],
 ) -> Result<(Part<Expr>, &'a [Token]), Fault<'a>>
     requires { k < 2 ^ 32 }
-    ensures reads { Gives (λ x. expr_of x.node.value) (spec.prefixed k (readers k) scope.old (place tokens.now) (prefix_of (seen tokens.now)) tokens.now) result }
+    ensures reads { Gives (λ x. expr_of x.node.value)
+        (spec.prefix_expr k (parsers k) scope.old (place tokens.now) (prefix_of (next_body tokens.now)) tokens.now)
+        result }
     ensures height { IfOk result (λ x. (x.0.height ≡ height (expr_of x.0.node.value)) × (x.0.height ≤ k + 1)) }
     ensures scope { IfOk result (λ x. scope.new ≡ scope.old ++ expr_adds (expr_of x.0.node.value)) }
 {
@@ -223,7 +228,8 @@ fn constant<'a>(
     tokens: &'a [Token],
 ) -> Result<(Part<Expr>, &'a [Token]), Fault<'a>>
     requires { k < 2 ^ 32 }
-    ensures reads { Gives (λ x. expr_of x.node.value) (spec.postfixes k (readers k) scope.old (tree.Const pos constant) tokens.now) result }
+    ensures reads { Gives (λ x. expr_of x.node.value)
+        (spec.postfixes k (parsers k) scope.old (tree.Const pos constant) tokens.now) result }
     ensures height { IfOk result (λ x. (x.0.height ≡ height (expr_of x.0.node.value)) × (x.0.height ≤ k + 1)) }
     ensures scope { IfOk result (λ x. scope.new ≡ scope.old ++ expr_adds (expr_of x.0.node.value)) }
 {
@@ -242,7 +248,8 @@ fn name<'a>(
     tokens: &'a [Token],
 ) -> Result<(Part<Expr>, &'a [Token]), Fault<'a>>
     requires { k < 2 ^ 32 }
-    ensures reads { Gives (λ x. expr_of x.node.value) (spec.postfixes k (readers k) scope.old (tree.Id pos name.now) tokens.now) result }
+    ensures reads { Gives (λ x. expr_of x.node.value)
+        (spec.postfixes k (parsers k) scope.old (tree.Id pos name.now) tokens.now) result }
     ensures height { IfOk result (λ x. (x.0.height ≡ height (expr_of x.0.node.value)) × (x.0.height ≤ k + 1)) }
     ensures scope { IfOk result (λ x. scope.new ≡ scope.old ++ expr_adds (expr_of x.0.node.value)) }
 {
@@ -252,7 +259,7 @@ fn name<'a>(
 
 /// Behind a string literal at this place: more of its width, and postfix operators.
 #[cycle(reading)]
-#[tactic(auto, unfolding(c_syntax::specs::ReadExpr::text))]
+#[tactic(auto, unfolding(c_reading::specs::ReadExpr::text))]
 fn text<'a>(
     alloc: Global,
     scope: &mut Scope,
@@ -263,7 +270,8 @@ fn text<'a>(
     tokens: &'a [Token],
 ) -> Result<(Part<Expr>, &'a [Token]), Fault<'a>>
     requires { k < 2 ^ 32 }
-    ensures reads { Gives (λ x. expr_of x.node.value) (spec.text k (readers k) scope.old pos units.now wide tokens.now) result }
+    ensures reads { Gives (λ x. expr_of x.node.value)
+        (spec.text k (parsers k) scope.old pos units.now wide tokens.now) result }
     ensures height { IfOk result (λ x. (x.0.height ≡ height (expr_of x.0.node.value)) × (x.0.height ≤ k + 1)) }
     ensures scope { IfOk result (λ x. scope.new ≡ scope.old ++ expr_adds (expr_of x.0.node.value)) }
 {
@@ -275,7 +283,7 @@ fn text<'a>(
 
 /// A unary expression or a cast, with the postfix operators behind it.
 #[cycle(reading)]
-#[tactic(auto, unfolding(c_syntax::specs::ReadExpr::unary_at, c_syntax::specs::ReadExpr::prefixed))]
+#[tactic(auto, unfolding(c_reading::specs::ReadExpr::unary_at, c_reading::specs::ReadExpr::prefix_expr))]
 pub(crate) fn unary_at<'a>(
     alloc: Global,
     scope: &mut Scope,
@@ -284,7 +292,7 @@ pub(crate) fn unary_at<'a>(
     tokens: &'a [Token],
 ) -> Result<(Part<Expr>, &'a [Token]), Fault<'a>>
     requires { k < 2 ^ 32 }
-    ensures reads { Gives (λ x. expr_of x.node.value) (spec.unary_at k (readers k) scope.old level tokens.now) result }
+    ensures reads { Gives (λ x. expr_of x.node.value) (spec.unary_at k (parsers k) scope.old level tokens.now) result }
     ensures height { IfOk result (λ x. (x.0.height ≡ height (expr_of x.0.node.value)) × (x.0.height ≤ k + 1)) }
     ensures scope { IfOk result (λ x. scope.new ≡ scope.old ++ expr_adds (expr_of x.0.node.value)) }
 {
@@ -322,6 +330,6 @@ pub(crate) fn unary_at<'a>(
             }
             inside(alloc, scope, k, level, *pos, rest)
         }
-        _ => prefixed(alloc, scope, k, tokens),
+        _ => prefix_expr(alloc, scope, k, tokens),
     }
 }

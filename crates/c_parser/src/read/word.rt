@@ -3,10 +3,10 @@
 ghost use Rattle.std.specs.Prelude.{◌≡◌, [], IfOk};
 ghost use Rattle.c_parser.specs.Agree.{Gives};
 ghost use Rattle.c_syntax.specs.Height.{specifier_height};
-ghost use Rattle.c_syntax.specs.Reader.{seen};
-ghost use Rattle.c_syntax.specs.Reader as reader;
-ghost use Rattle.c_syntax.specs.ReadSpecifier as spec;
-ghost use Rattle.c_syntax.specs.ReadToken as tokens_of;
+ghost use Rattle.c_reading.specs.Parser.{next_body};
+ghost use Rattle.c_reading.specs.Parser as parser;
+ghost use Rattle.c_reading.specs.ReadSpecifier as spec;
+ghost use Rattle.c_reading.specs.ReadToken as tokens_of;
 ghost use Rattle.c_syntax.specs.Scopes.{specifier_adds};
 ghost use Rattle.c_syntax.specs.View.{specifier_of};
 
@@ -20,7 +20,7 @@ use std::alloc::Global;
 
 /// The storage-class specifier that stands here (6.7.1).
 pub(crate) fn storage_of(tokens: &[Token]) -> Option<Storage>
-    ensures { result ≡ tokens_of.storage_of (seen tokens.now) }
+    ensures { result ≡ tokens_of.storage_of (next_body tokens.now) }
 {
     match tokens {
         [
@@ -64,7 +64,7 @@ pub(crate) fn storage_of(tokens: &[Token]) -> Option<Storage>
 
 /// The word of a basic type that stands here (6.7.2).
 pub(crate) fn basic_of(tokens: &[Token]) -> Option<BasicWord>
-    ensures { result ≡ tokens_of.basic_of (seen tokens.now) }
+    ensures { result ≡ tokens_of.basic_of (next_body tokens.now) }
 {
     match tokens {
         [
@@ -132,7 +132,8 @@ pub(crate) fn word_at<'a>(
     alloc: Global,
     tokens: &'a [Token],
 ) -> Result<(Part<Specifier>, &'a [Token]), Fault<'a>>
-    ensures reads { Gives (λ x. specifier_of x.node.value) (spec.word_at (reader.place tokens.now) (seen tokens.now) tokens.now) result }
+    ensures reads { Gives (λ x. specifier_of x.node.value)
+        (spec.word_at (parser.place tokens.now) (next_body tokens.now) tokens.now) result }
     ensures height { IfOk result (λ x. (x.0.height ≡ 0) × (specifier_height (specifier_of x.0.node.value) ≡ 0)) }
     ensures scope { IfOk result (λ x. specifier_adds (specifier_of x.0.node.value) ≡ []) }
 {

@@ -1,9 +1,11 @@
 //! Layouts as gcc 12.2 on x86-64 gives them (`layouts.c`), where a pointer stands as a structure of 16 bytes.
 
-ghost use Rattle.std.specs.Prelude.{◌<◌, ◌≤◌, IfOk};
+ghost use Rattle.std.specs.Prelude.{◌≡◌, ◌<◌, ◌≤◌, IfOk, slice_set};
 ghost use Rattle.c_types.specs.Types.{count_of};
 ghost use Rattle.c_types.specs.CType.{type_of};
-ghost use Rattle.c_types.specs.Structures.{IsIncomplete, structures_of};
+ghost use Rattle.c_types.specs.Structures.{Structure, IsIncomplete, structures_of};
+ghost use Rattle.c_types.specs.Making.{KeepsTypes};
+ghost use Rattle.c_types.specs.Compounds.{number_in};
 
 use crate::{Basic, BuildFault, LayoutFault, TypeId, TypeTable};
 use critical_table::Name;
@@ -34,7 +36,9 @@ fn complete_with(
     requires x { types.0.0 < count_of table.old }
     requires y { types.1.0 < count_of table.old }
     requires z { types.2.0 < count_of table.old }
-    ensures { IfOk result (λ _. count_of table.old ≤ count_of table.new) }
+    ensures types { IfOk result (λ _. KeepsTypes table.old table.new) }
+    ensures structures { IfOk result (λ _. (s : Structure) × (structures_of table.new
+        ≡ slice_set (structures_of table.old) (number_in (type_of table.old id)) s)) }
 {
     let names = [
         Name::new(alloc, b"x")?,

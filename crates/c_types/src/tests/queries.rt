@@ -19,7 +19,7 @@ fn functions_are_compatible_without_the_qualifiers_of_parameters(
     let constant = table.qualified(int, CONST)?;
     let plain = table.function(int, &[int], false)?;
     let other = table.function(int, &[constant], false)?;
-    assert!(rt; table.compatible(plain, other));
+    assert!(rt; table.compatible(other, plain));
     assert!(rt; !table.compatible(int, constant));
     let composite = table.composite(other, plain)?;
     assert!(rt; matches!(table.shape(composite), Shape::Function(_)));

@@ -1,5 +1,5 @@
 //! Declarations (6.7): specifiers, declarators and initializers.
-use crate::tests::told::check;
+use crate::tests::answers::check;
 use std::test::Fail;
 
 #[test]

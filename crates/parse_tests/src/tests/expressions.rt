@@ -1,5 +1,5 @@
 //! Expressions (6.5): precedence, association and the shape of each operator.
-use crate::tests::told::check;
+use crate::tests::answers::check;
 use std::test::Fail;
 
 #[test]

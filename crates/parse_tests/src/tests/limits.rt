@@ -1,11 +1,11 @@
 //! Units at the greatest height, and beyond it.
-use crate::tests::told::told;
+use crate::tests::answers::answer_of;
 use c_lexer::lex;
 use c_parser::{SyntaxFault, parse};
 use std::alloc::{AllocError, Global};
 use std::test::Fail;
 
-fn repeated(
+fn repeat(
     alloc: Global,
     before: &str,
     part: &str,
@@ -43,9 +43,9 @@ fn too_deep(rt: HostRuntime) -> Result<(), Fail> {
         ("int main(void){", "if(1);else ", 253, "Deep 1:2788"),
     ];
     for (before, part, count, answer) in units {
-        let unit = repeated(alloc, before, part, count, "")?;
+        let unit = repeat(alloc, before, part, count, "")?;
         assert_eq!(rt;
-            told(alloc, unit.as_str(), true)?.as_str(),
+            answer_of(alloc, unit.as_str(), true)?.as_str(),
             answer,
             "{before}{part}"
         );
@@ -70,8 +70,8 @@ fn of_the_greatest_height(rt: HostRuntime) -> Result<(), Fail> {
         ("int main(void){", "if(1);else ", 252, ";", "", "}"),
     ];
     for (before, part, count, middle, closing, behind) in units {
-        let opened = repeated(alloc, before, part, count, middle)?;
-        let unit = repeated(alloc, opened.as_str(), closing, count, behind)?;
+        let opened = repeat(alloc, before, part, count, middle)?;
+        let unit = repeat(alloc, opened.as_str(), closing, count, behind)?;
         let Ok(tokens) = lex(alloc, unit.as_bytes()) else {
             assert!(rt; false, "{before}{part}");
             continue;

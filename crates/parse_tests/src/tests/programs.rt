@@ -1,5 +1,5 @@
 //! Whole programs. The expected trees are those of another parser (pycparser 3.0), in whose trees no parentheses stand.
-use crate::tests::told::check_bare;
+use crate::tests::answers::check_bare;
 use std::test::Fail;
 
 #[test]

@@ -1,5 +1,5 @@
 //! Where units are refused, and why.
-use crate::tests::told::check;
+use crate::tests::answers::check;
 use std::test::Fail;
 
 // The place is that of the first complaint of gcc 12, clang 14 or pycparser 3.0 too, but where a comment says why not.

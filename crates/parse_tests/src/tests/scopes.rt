@@ -1,5 +1,5 @@
 //! What a name is, by the scopes that it stands in (6.2.1).
-use crate::tests::told::check;
+use crate::tests::answers::check;
 use std::test::Fail;
 
 #[test]

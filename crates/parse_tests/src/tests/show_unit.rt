@@ -12,7 +12,7 @@ fn initializer(out: &mut Text, of: &Initializer) -> Shown {
         Initializer::Expression(single) => expr(out, single),
         Initializer::Braces(_, items, comma) => {
             out.open("{")?;
-            designated(out, items)?;
+            designated_items(out, items)?;
             if *comma {
                 out.word(",")?;
             }
@@ -22,7 +22,7 @@ fn initializer(out: &mut Text, of: &Initializer) -> Shown {
 }
 
 #[cycle(show_initializer)]
-fn designated(out: &mut Text, items: &[Item]) -> Shown {
+fn designated_items(out: &mut Text, items: &[Item]) -> Shown {
     for item in items {
         match item {
             Item::Plain(of) => initializer(out, of)?,
@@ -89,7 +89,7 @@ fn part(out: &mut Text, of: &Option<Expr>) -> Shown {
     }
 }
 
-fn controlled(out: &mut Text, word: &str, test: &Expr) -> Shown {
+fn controlling(out: &mut Text, word: &str, test: &Expr) -> Shown {
     out.begin(word)?;
     expr(out, test)
 }
@@ -113,28 +113,28 @@ fn statement(out: &mut Text, of: &Statement) -> Shown {
         }
         Statement::ExprStmt(value) => return optional(out, "evaluate", value),
         Statement::If(_, test, then, otherwise) => {
-            controlled(out, "if", test)?;
+            controlling(out, "if", test)?;
             statement(out, then)?;
             if let Some(otherwise) = otherwise {
                 statement(out, otherwise)?;
             }
         }
         Statement::Switch(_, test, items) => {
-            controlled(out, "switch", test)?;
+            controlling(out, "switch", test)?;
             switch_items(out, items)?;
         }
-        Statement::While(_, test, turn) => {
-            controlled(out, "while", test)?;
-            statement(out, turn)?;
+        Statement::While(_, test, body) => {
+            controlling(out, "while", test)?;
+            statement(out, body)?;
         }
-        Statement::Do(_, turn, test) => {
+        Statement::Do(_, body, test) => {
             out.begin("do")?;
-            statement(out, turn)?;
+            statement(out, body)?;
             expr(out, test)?;
         }
-        Statement::For(_, init, test, step, turn) => {
+        Statement::For(_, init, test, step, body) => {
             for_head(out, init, test, step)?;
-            statement(out, turn)?;
+            statement(out, body)?;
         }
         Statement::Break(_) => return out.word("(break)"),
         Statement::Continue(_) => return out.word("(continue)"),
@@ -165,7 +165,7 @@ fn switch_items(out: &mut Text, items: &[SwitchItem]) -> Shown {
     for item in items {
         match item {
             SwitchItem::Case(_, value) => {
-                controlled(out, "case", value)?;
+                controlling(out, "case", value)?;
                 out.close(")")?;
             }
             SwitchItem::Default(_) => out.word("(default)")?,
@@ -190,7 +190,7 @@ fn external(out: &mut Text, of: &External) -> Shown {
 }
 
 /// The unit as text, with or without the parentheses of expressions and declarators.
-pub fn shown(alloc: Global, tree: &Tree, parens: bool) -> Result<String, AllocError> {
+pub fn text_of_tree(alloc: Global, tree: &Tree, parens: bool) -> Result<String, AllocError> {
     let mut out = Text::new(alloc, parens);
     for one in &tree.externals {
         external(&mut out, one)?;

@@ -1,5 +1,5 @@
 //! Statements (6.8) and functions (6.9.1).
-use crate::tests::told::check;
+use crate::tests::answers::check;
 use std::test::Fail;
 
 #[test]

@@ -1,3 +1,4 @@
+-- The first file of a name among all is the first among those that are left.
 use Rattle.std.proofs.Common.{◌∙◌, refl, sym, arith}
 use Rattle.acc_io.proofs.FilesLemmas.{file_of-pass, file_of-here, file_of-end}
 use Rattle.acc_io.proofs.place.first_of.Goals as goal
@@ -15,7 +16,8 @@ loop-file-preserved c =
 pub returns-then-eq-clause-found : goal.returns-then-eq-clause-found
 returns-then-eq-clause-found c =
     c.loop-file.invariant
-    ∙ file_of-here c.args.files.now c.args.name.now c.loop-file.file c.index-files-file.result (record { file = c.loop-file.file; at = 0 })
+    ∙ file_of-here c.args.files.now c.args.name.now c.loop-file.file c.index-files-file.result
+    (record { file = c.loop-file.file; at = 0 })
     (omega arith) c.index-files-file.is
     (let same = sym c.eq.ensures ∙ c.if-eq.true in rw c.as_str.ensures.value at same)
     refl

@@ -1,3 +1,4 @@
+-- No file before this one has the name, so the first of that name is the first among the rest.
 use Rattle.std.proofs.Common.{◌≡◌, drop}
 use Rattle.acc_io.specs.Held.{file_of}
 use Rattle.acc_io.specs.Files.{files_of}

@@ -1,3 +1,4 @@
+-- A front of the bytes is written, no fault was counted, and there is room for the rest; the rest gets shorter.
 use Rattle.std.proofs.Common.{length, ◌-◌, ℕ, ◌+◌, ◌≡◌, ◌≤◌, take}
 use Rattle.acc_io.specs.Bytes.{Gains}
 use Rattle.acc_io.proofs.writing.write_all.Given as goal

@@ -1,3 +1,4 @@
+-- The lines so far are written, and there is room for the others.
 use Rattle.std.proofs.Common.{◌≡◌, ℕ, ◌+◌, length, take, drop}
 use Rattle.acc_io.specs.Bytes.{Gains}
 use Rattle.critical_table.specs.Table.{table_lines}
@@ -10,5 +11,6 @@ abbrev pub invariant-loop-index : goal.invariant-loop-index
 invariant-loop-index g l = record {
   count : g.O.Sink.faults l.out ≡ g.O.Sink.faults l.fn.out;
   written : Gains (g.O.Sink.written l.fn.out) (g.O.Sink.written l.out) (text_of (take l.index table_lines));
-  room : (more : ℕ) → g.O.Sink.has_room l.fn.out (length table_text + more) → g.O.Sink.has_room l.out (length (text_of (drop l.index table_lines)) + more);
+  room : (more : ℕ) → g.O.Sink.has_room l.fn.out (length table_text + more)
+      → g.O.Sink.has_room l.out (length (text_of (drop l.index table_lines)) + more);
 }

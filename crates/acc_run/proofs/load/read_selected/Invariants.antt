@@ -1,11 +1,13 @@
+-- What was read is a front of the file, not too long, and the shelf has the rest.
 use Rattle.std.proofs.Common.{◌≤◌, ◌-◌}
 use Rattle.std.specs.Prelude.{vec_len}
-use Rattle.acc_run.specs.Loading.{IsReadSoFar, most_read}
+use Rattle.acc_io.specs.Held.{Reads}
+use Rattle.acc_run.specs.Loading.{most_read}
 use Rattle.acc_run.proofs.load.read_selected.Given as goal
 
 abbrev pub invariant-loop-shelf : goal.invariant-loop-shelf
 invariant-loop-shelf g l = record {
-  so_far : IsReadSoFar (g.S.Shelf.told l.fn.shelf) (g.S.Shelf.told l.shelf) l.bytes.items;
+  so_far : Reads (g.S.Shelf.contents l.fn.shelf) (g.S.Shelf.contents l.shelf) l.bytes.items;
   short : vec_len l.bytes ≤ most_read;
   counts : g.S.Shelf.faults l.fn.shelf ≤ g.S.Shelf.faults l.shelf;
   sound : g.S.Shelf.sound l.fn.shelf → g.S.Shelf.sound l.shelf;

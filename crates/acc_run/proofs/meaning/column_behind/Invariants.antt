@@ -1,3 +1,4 @@
+-- The column is the one behind the calls so far.
 use Rattle.std.proofs.Common.{◌≡◌, ◌+◌, length, take}
 use Rattle.std.specs.List.{flat_map}
 use Rattle.acc_run.specs.Program.{putchar_call}

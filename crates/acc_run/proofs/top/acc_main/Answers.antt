@@ -1,10 +1,11 @@
-use Rattle.acc_run.specs.Answer.{seen}
-use Rattle.acc_run.proofs.Assembled.{answers}
+-- The command and its report, put together.
+use Rattle.acc_run.specs.Answer.{observe}
+use Rattle.acc_run.proofs.AnswerSteps.{answers}
 use Rattle.acc_run.proofs.top.acc_main.Goals as goal
 
 pub returns-clause-answer : goal.returns-clause-answer
 returns-clause-answer g c =
-    answers c.args.words.now (seen g.S.Shelf.faults g.S.Shelf.told c.args.shelf.now c.perform-ended.new.shelf)
+    answers c.args.words.now (observe g.S.Shelf.faults g.S.Shelf.contents c.args.shelf.now c.perform-ended.new.shelf)
     (record {
       out_0 = g.O.Sink.faults c.args.streams.out;
       out_1 = g.O.Sink.faults c.perform-ended.new.out;
@@ -17,4 +18,5 @@ returns-clause-answer g c =
       text_0 = g.E.Sink.written c.args.streams.err;
       text_1 = g.E.Sink.written c.report-ended.new.err;
     })
-    c.perform-ended.result c.report-ended.result c.report-ended.ensures.out_never_falls c.perform-ended.ensures.performs c.report-ended.ensures.reports
+    c.perform-ended.result c.report-ended.result c.report-ended.ensures.out_never_falls
+    c.perform-ended.ensures.performs c.report-ended.ensures.reports

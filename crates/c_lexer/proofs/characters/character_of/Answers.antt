@@ -1,3 +1,4 @@
+-- By how a character constant is read.
 use Rattle.c_lexer.proofs.CharacterLaws.{character_found, character_none}
 use Rattle.c_lexer.proofs.characters.character_of.Goals as goal
 

@@ -1,3 +1,4 @@
+-- By how a string literal is read.
 use Rattle.c_lexer.proofs.CharacterLaws.{literal_read, literal_not_read}
 use Rattle.c_lexer.proofs.characters.literal_of.Goals as goal
 

@@ -1,3 +1,4 @@
+-- What the rest of the table has is what the table has.
 use Rattle.std.proofs.Common.{◌≡◌, length}
 use Rattle.c_lexer.specs.Characters.{value_at}
 use Rattle.c_lexer.proofs.characters.lookup.Given as goal

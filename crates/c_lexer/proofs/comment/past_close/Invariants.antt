@@ -1,3 +1,4 @@
+-- The first `*/` of the rest is that of all.
 use Rattle.std.proofs.Common.{◌≡◌, ◌≤◌, length}
 use Rattle.c_lexer.specs.ReadComment.{past_close}
 use Rattle.c_lexer.proofs.comment.past_close.Given as goal

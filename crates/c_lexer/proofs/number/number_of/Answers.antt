@@ -1,3 +1,4 @@
+-- By how a number is read.
 use Rattle.c_lexer.proofs.NumberLaws.{number_found, number_none}
 use Rattle.c_lexer.proofs.number.number_of.Goals as goal
 

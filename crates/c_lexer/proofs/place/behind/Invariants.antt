@@ -1,3 +1,4 @@
+-- The place so far, and what is left.
 use Rattle.std.proofs.Common.{◌≡◌, ◌+◌, ◌≤◌, drop}
 use Rattle.c_lexer.specs.Lexing.{behind}
 use Rattle.c_lexer.proofs.place.behind.Given as goal

@@ -1,3 +1,4 @@
+-- A comment goes on in the rest where it does in all.
 use Rattle.std.proofs.Common.{◌≡◌, length}
 use Rattle.c_lexer.specs.ReadDirective.{goes_on}
 use Rattle.c_lexer.proofs.pragma.goes_on.Given as goal

@@ -1,3 +1,4 @@
+-- By the table of marks.
 use Rattle.c_lexer.proofs.MarkLaws.{mark_found, mark_none}
 use Rattle.c_lexer.proofs.punct.mark_of.Goals as goal
 

@@ -1,3 +1,4 @@
+-- A text spells at most one token.
 use Rattle.c_lexer.proofs.TokenLaws.{only_one}
 use Rattle.c_lexer.proofs.spelling.token_of.Goals as goal
 

@@ -1,3 +1,4 @@
+-- By the table of words.
 use Rattle.c_lexer.specs.Words.{word_of}
 use Rattle.c_lexer.proofs.WordLaws.{word_found, word_none}
 use Rattle.c_lexer.proofs.word.word_of.Goals as goal

@@ -1,7 +1,15 @@
 -- Each call ends by what is left of the height, and within one height by who calls whom.
+--
+-- What decreases is 64 * (height left) + rank. A call with one height less takes 64 off, whatever its rank; at one
+-- height a function has a higher rank than each that it calls:
+--   40       switch_item_at      30  block_item_at      20  statement_at
+--   10       the statements behind their words: if_on, switch_on, while_on, do_on, for_on;  9  for_begun, within for_on
+--   3, 2, 1  compound; the braces: block, switch_block; the items between them: block_run, switch_run
+-- `statement`, `block_item` and `switch_item` have rank 0: at height h they go to a function at h - 1. A loop over
+-- items decreases by the tokens left.
 use Rattle.std.proofs.Common.{◌≡◌, length, map, take, ◌+◌, ◌*◌, ◌≤◌, ◌++◌}
-use Rattle.c_syntax.specs.Reader.{and_then, give}
-use Rattle.c_syntax.specs.ReadBody.{block_run, switch_run, statements}
+use Rattle.c_reading.specs.Parser.{and_then, pure}
+use Rattle.c_reading.specs.ReadBody.{block_run, switch_run, statements}
 use Rattle.c_syntax.specs.ViewUnit.{block_item_of, switch_item_of}
 use Rattle.c_parser.proofs.body.+executing.Given as goal
 
@@ -58,7 +66,8 @@ decreases-block::block_run l = 64 * l.k + 1
 abbrev pub invariant-block::block_run-each : goal.invariant-block::block_run-each
 invariant-block::block_run-each l = record {
   reads : block_run (statements l.k).block_item l.fn.scope l.tokens
-      ≡ and_then (block_run (statements l.k).block_item l.scope l.rest) (λ more. give (map block_item_of l.items.items ++ more));
+      ≡ and_then (block_run (statements l.k).block_item l.scope l.rest)
+      (λ more. pure (map block_item_of l.items.items ++ more));
   longer : length l.fn.scope ≤ length l.scope;
   kept : take (length l.fn.scope) l.scope ≡ l.fn.scope;
 }
@@ -72,7 +81,8 @@ decreases-block::switch_run l = 64 * l.k + 1
 abbrev pub invariant-block::switch_run-each : goal.invariant-block::switch_run-each
 invariant-block::switch_run-each l = record {
   reads : switch_run (statements l.k).switch_item l.fn.scope l.tokens
-      ≡ and_then (switch_run (statements l.k).switch_item l.scope l.rest) (λ more. give (map switch_item_of l.items.items ++ more));
+      ≡ and_then (switch_run (statements l.k).switch_item l.scope l.rest)
+      (λ more. pure (map switch_item_of l.items.items ++ more));
   longer : length l.fn.scope ≤ length l.scope;
   kept : take (length l.fn.scope) l.scope ≡ l.fn.scope;
 }

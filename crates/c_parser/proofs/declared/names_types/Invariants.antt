@@ -1,3 +1,4 @@
+-- What the loop of `names_types` keeps.
 use Rattle.std.proofs.Common.{◌≡◌, drop}
 use Rattle.c_syntax.specs.Scopes.{names_types}
 use Rattle.c_syntax.specs.View.{specifiers_of}

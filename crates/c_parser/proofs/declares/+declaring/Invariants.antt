@@ -1,3 +1,4 @@
+-- What the loops of the functions that declare the names of a node keep.
 use Rattle.std.proofs.Common.{◌≡◌, ◌++◌, take}
 use Rattle.std.specs.List.{flat_map}
 use Rattle.c_syntax.specs.Scopes.{expr_adds, specifier_adds, member_adds, declarator_adds, enumerator_adds}

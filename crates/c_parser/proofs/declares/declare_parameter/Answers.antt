@@ -1,3 +1,4 @@
+-- The goals of `declare_parameter` that are answered by hand.
 use Rattle.std.proofs.Common.{rules, append_assoc}
 use Rattle.std.proofs.lemmas.Result.{IfOk-equal}
 use Rattle.c_parser.proofs.Adding.{specifiers_listed_add}

@@ -1,3 +1,4 @@
+-- What the loop of `declare_parameters` keeps.
 use Rattle.std.proofs.Common.{◌≡◌, ◌++◌, take}
 use Rattle.std.specs.List.{flat_map}
 use Rattle.c_syntax.specs.Scopes.{parameter_adds}

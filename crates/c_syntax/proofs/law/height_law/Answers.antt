@@ -1,4 +1,6 @@
-use Rattle.c_syntax.proofs.HeightLaws.{expr_high, type_name_high, declarator_high, initializer_high, statement_high, external_high, tree_high}
+-- Each clause of `height_law` is a lemma.
+use Rattle.c_syntax.proofs.HeightLaws.{expr_high, type_name_high, declarator_high, initializer_high, statement_high}
+use Rattle.c_syntax.proofs.HeightLaws.{external_high, tree_high}
 use Rattle.c_syntax.proofs.law.height_law.Goals as goal
 
 pub returns : goal.returns

@@ -1,3 +1,4 @@
+-- What the loop of `qualifiers` keeps.
 use Rattle.std.proofs.Common.{◌≡◌, ◌++◌, take}
 use Rattle.c_syntax.specs.Spelling.{spell_qualifiers}
 use Rattle.c_syntax.proofs.output.qualifiers.Given as goal

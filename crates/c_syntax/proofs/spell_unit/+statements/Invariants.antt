@@ -1,3 +1,4 @@
+-- What the loops of the functions that spell statements keep.
 use Rattle.std.proofs.Common.{◌≡◌, ◌++◌, take}
 use Rattle.std.specs.List.{flat_map}
 use Rattle.c_syntax.specs.SpellingUnit.{spell_block_item, spell_switch_item}

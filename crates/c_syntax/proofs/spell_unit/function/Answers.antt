@@ -1,6 +1,7 @@
+-- The goals of `function` that are answered by hand.
 use Rattle.std.proofs.Common.{rules, append_assoc}
 use Rattle.std.proofs.lemmas.Result.{IfOk-equal}
-use Rattle.c_syntax.proofs.PartsUnit.{spells_function}
+use Rattle.c_syntax.proofs.SpelledListsUnit.{spells_function}
 use Rattle.c_syntax.proofs.spell_unit.function.Goals as goal
 
 pub returns : goal.returns

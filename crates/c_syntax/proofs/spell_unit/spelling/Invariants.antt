@@ -1,3 +1,4 @@
+-- What the loop of `spelling` keeps.
 use Rattle.std.proofs.Common.{◌≡◌, map, take}
 use Rattle.std.specs.List.{flat_map}
 use Rattle.c_syntax.specs.SpellingUnit.{spell_external}

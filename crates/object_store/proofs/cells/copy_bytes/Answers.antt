@@ -1,3 +1,4 @@
+-- Each step writes the cell that belongs there.
 use Rattle.std.proofs.Common.{arith, map, None, ◌∙◌, ap, sym}
 use Rattle.std.proofs.lemmas.List.{length-map, get_or-map}
 use Rattle.object_store.specs.Steps.{stored_cell}
@@ -6,6 +7,9 @@ use Rattle.object_store.proofs.cells.copy_bytes.Goals as goal
 
 pub loop-i-preserved : goal.loop-i-preserved
 loop-i-preserved c =
-    map_step stored_cell c.args.cells.now c.args.at (map (λ c. c.byte) c.args.source.now) c.loop-i.cells c.loop-i.i c.plain.result None
+    map_step stored_cell c.args.cells.now c.args.at (map (λ c. c.byte) c.args.source.now) c.loop-i.cells c.loop-i.i
+    c.plain.result None
     c.loop-i.invariant (rw length-map (omega arith)) (rw length-map (omega arith))
-    (c.plain.ensures ∙ ap stored_cell (sym (get_or-map (λ c. c.byte) c.args.source.now c.loop-i.i (stored_cell None) None (omega arith))))
+    (c.plain.ensures
+    ∙ ap stored_cell
+    (sym (get_or-map (λ c. c.byte) c.args.source.now c.loop-i.i (stored_cell None) None (omega arith))))

@@ -1,3 +1,4 @@
+-- The range is written up to `i`: the bytes of the source, in cells that may be stored to.
 use Rattle.std.proofs.Common.{◌≡◌, map}
 use lib.Seq.{paste}
 use Rattle.object_store.specs.Steps.{stored_cell}

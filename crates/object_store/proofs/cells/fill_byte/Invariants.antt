@@ -1,3 +1,4 @@
+-- The range is written up to `i`: the one byte.
 use Rattle.std.proofs.Common.{◌≡◌, map, Some, replicate}
 use lib.Seq.{paste}
 use Rattle.object_store.specs.Steps.{stored_cell}

@@ -1,3 +1,4 @@
+-- Each step writes the cell that belongs there.
 use Rattle.std.proofs.Common.{◌≡◌, ℕ, List, length, arith, map, Option, None, ◌∙◌, ap, sym}
 use Rattle.std.proofs.lemmas.List.{length-map, get_or-map}
 use Rattle.object_store.specs.declared.cell.Cell.{Cell}
@@ -15,6 +16,7 @@ loop-i-preserved c =
     map_step stored_cell old c.args.to bytes c.loop-i.cells c.loop-i.i c.plain.result None
     c.loop-i.invariant (omega arith) (omega arith)
     (c.plain.ensures ∙ ap stored_cell (ap (λ (x : Cell). x.byte)
-    (read_paste old c.args.to (map stored_cell bytes) c.loop-i.i c.loop-i.cells c.loop-i.invariant c.args.from c.args.len
+    (read_paste old c.args.to (map stored_cell bytes) c.loop-i.i c.loop-i.cells c.loop-i.invariant c.args.from
+    c.args.len
     c.loop-i.i (stored_cell None) (omega arith) (omega arith) (omega arith) (rw length-map (omega arith)))
     ∙ sym (get_or-map (λ c. c.byte) moved c.loop-i.i (stored_cell None) None (omega arith))))

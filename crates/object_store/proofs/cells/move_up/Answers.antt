@@ -1,3 +1,4 @@
+-- Each step writes the cell that belongs there.
 use Rattle.std.proofs.Common.{◌≡◌, ℕ, ◌-◌, List, length, arith, map, Option, None, ◌∙◌, ap, sym}
 use Rattle.std.proofs.lemmas.List.{length-map, get_or-map}
 use Rattle.object_store.specs.declared.cell.Cell.{Cell}
@@ -17,7 +18,8 @@ loop-left-preserved c =
       map_step_back stored_cell old c.args.to bytes c.loop-left.cells c.loop-left.left n c.plain.result None
           (omega arith) c.loop-left.invariant.1 (omega arith) (omega arith)
           (c.plain.ensures ∙ ap stored_cell (ap (λ (x : Cell). x.byte)
-          (read_paste_back old c.args.to (map stored_cell bytes) c.loop-left.left c.loop-left.cells c.loop-left.invariant.1
+          (read_paste_back old c.args.to (map stored_cell bytes) c.loop-left.left c.loop-left.cells
+          c.loop-left.invariant.1
           c.args.from c.args.len n (stored_cell None) (omega arith) (omega arith) (omega arith))
           ∙ sym (get_or-map (λ c. c.byte) moved n (stored_cell None) None (omega arith)))),
     )

@@ -1,3 +1,4 @@
+-- A name that is held is selected from its first byte.
 use Rattle.std.proofs.Common.{◌∙◌, ap, sym}
 use Rattle.acc_io.specs.Views.{Selection}
 use Rattle.acc_io.proofs.SelectionLemmas.{Selects-left_of}

@@ -1,5 +1,6 @@
+-- The goals of `assert_on` that are answered by hand.
 use Rattle.std.proofs.Common.{rules}
-use Rattle.c_syntax.specs.ReadBody.{assert_on}
+use Rattle.c_reading.specs.ReadBody.{assert_on}
 use Rattle.c_parser.proofs.body.assertion.assert_on.Goals as goal
 
 pub returns-clause-reads : goal.returns-clause-reads

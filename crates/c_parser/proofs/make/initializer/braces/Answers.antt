@@ -1,6 +1,7 @@
+-- The goals of `braces` that are answered by hand.
 use Rattle.std.proofs.Common.{ap, ◌∙◌}
 use Rattle.c_syntax.specs.ViewUnit.{initializer_of}
-use Rattle.c_syntax.proofs.PartsUnit.{built_braces}
+use Rattle.c_syntax.proofs.SpelledListsUnit.{built_braces}
 use Rattle.c_parser.proofs.make.initializer.braces.Goals as goal
 
 pub returns : goal.returns

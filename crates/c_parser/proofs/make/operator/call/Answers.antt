@@ -1,6 +1,7 @@
+-- The goals of `call` that are answered by hand.
 use Rattle.std.proofs.Common.{◌∙◌, ap}
 use Rattle.c_syntax.specs.View.{expr_of}
-use Rattle.c_syntax.proofs.Parts.{call_of}
+use Rattle.c_syntax.proofs.SpelledLists.{call_of}
 use Rattle.c_parser.proofs.make.operator.call.Goals as goal
 
 pub returns-clause-tree : goal.returns-clause-tree

@@ -1,3 +1,4 @@
+-- The goals of `block` that are answered by hand.
 use Rattle.std.proofs.Common.{◌∙◌, ap}
 use Rattle.c_syntax.specs.ViewUnit.{statement_of}
 use Rattle.c_parser.proofs.RowsUnit.{block_tree}

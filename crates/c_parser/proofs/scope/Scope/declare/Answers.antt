@@ -1,3 +1,4 @@
+-- The goals of `declare` that are answered by hand.
 use Rattle.std.proofs.Common.{◌≡◌, [], ◌∷◌, ◌++◌, Some, sym, ◌∙◌, subst}
 use Rattle.std.specs.BTreeMap.{get, Updates}
 use Rattle.std.specs.Cmp.Lexicographic.{slice_cmp}
@@ -9,14 +10,26 @@ use Rattle.c_parser.proofs.scope.Scope.declare.Goals as goal
 
 pub invariant_of-self-in-Ok : goal.invariant_of-self-in-Ok
 invariant_of-self-in-Ok c =
-    let last : Entry = record { name = c.in_ok-name.name; names_type = c.args.names_type; hidden = c.copied-hidden.result } in
+    let last : Entry = record {
+      name = c.in_ok-name.name;
+      names_type = c.args.names_type;
+      hidden =
+          c.copied-hidden.result;
+    } in
     let items : c.push.new.self.items ≡ c.self.inside.entries.items ++ last ∷ [] = c.in_ok-push.ensures.items in
-    let same : c.in_ok-key.key ≡ c.in_ok-name.name = c.in_ok-key.ensures ∙ c.bytes.ensures ∙ sym (c.in_ok-name.ensures ∙ c.bytes-2.ensures) in
-    let found : c.copied-hidden.result ≡ get (slice_cmp nat_cmp) c.self.inside.names c.in_ok-key.key = cc (c.get.ensures.value, c.copied-hidden.ensures) in
-    let updates : Updates (slice_cmp nat_cmp) c.self.inside.names c.insert.new.self c.in_ok-key.key (Some c.args.names_type) = c.in-Ok.ensures.updates in
-    let found_last : last.hidden ≡ get (slice_cmp nat_cmp) c.self.inside.names last.name = subst (λ name. last.hidden ≡ get (slice_cmp nat_cmp) c.self.inside.names name) same found in
-    let updates_last = subst (λ name. Updates (slice_cmp nat_cmp) c.self.inside.names c.insert.new.self name (Some c.args.names_type)) same updates in
+    let same : c.in_ok-key.key ≡ c.in_ok-name.name = c.in_ok-key.ensures ∙ c.bytes.ensures
+    ∙ sym (c.in_ok-name.ensures ∙ c.bytes-2.ensures) in
+    let found : c.copied-hidden.result ≡ get (slice_cmp nat_cmp) c.self.inside.names c.in_ok-key.key =
+    cc (c.get.ensures.value, c.copied-hidden.ensures) in
+    let updates : Updates (slice_cmp nat_cmp) c.self.inside.names c.insert.new.self c.in_ok-key.key
+    (Some c.args.names_type) = c.in-Ok.ensures.updates in
+    let found_last : last.hidden ≡ get (slice_cmp nat_cmp) c.self.inside.names last.name =
+    subst (λ name. last.hidden ≡ get (slice_cmp nat_cmp) c.self.inside.names name) same found in
+    let updates_last =
+    subst (λ name. Updates (slice_cmp nat_cmp) c.self.inside.names c.insert.new.self name
+    (Some c.args.names_type)) same updates in
     subst
     (λ all. IsKept all c.insert.new.self)
     (sym items)
-    (kept_more c.self.inside.entries.items last c.self.inside.names c.insert.new.self c.self.invariant found_last updates_last)
+    (kept_more c.self.inside.entries.items last c.self.inside.names c.insert.new.self c.self.invariant found_last
+    updates_last)

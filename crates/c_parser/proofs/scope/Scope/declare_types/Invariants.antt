@@ -1,3 +1,4 @@
+-- What the loop of `declare_types` keeps.
 use Rattle.std.proofs.Common.{◌≡◌, ◌++◌, map, take, true}
 use Rattle.c_parser.proofs.scope.Scope.declare_types.Given as goal
 

@@ -1,46 +1,21 @@
-use Rattle.std.proofs.Common.{◌++◌, sym, ◌∙◌, ap, subst}
-use Rattle.std.specs.BTreeMap.{Updates}
-use Rattle.std.specs.Cmp.Lexicographic.{slice_cmp}
-use Rattle.std.specs.Option.{option_to_list}
-use Rattle.std.specs.Ordering.{nat_cmp}
-use Rattle.std.specs.Result.{OnOk}
-use Rattle.c_parser.specs.Known.{IsKept}
-use Rattle.c_parser.proofs.Kept.{kept_less, kept_put}
+-- The goals of `forget` that are answered by hand.
+use Rattle.c_parser.proofs.Kept.{last_popped, kept_removed, kept_put}
 use Rattle.c_parser.proofs.scope.Scope.forget.Goals as goal
 
 pub invariant_of-self-in-None-entry : goal.invariant_of-self-in-None-entry
 invariant_of-self-in-None-entry c =
-    let items = c.pop.ensures.items ∙ ap (λ popped. c.pop.new.self.items ++ option_to_list popped) c.in-Some.is in
-    kept_less
-    c.pop.new.self.items
-    c.in-Some.entry
-    c.self.inside.names
-    c.remove.new.self
-    (subst (λ all. IsKept all c.self.inside.names) items c.self.invariant)
-    (subst (λ hidden. Updates (slice_cmp nat_cmp) c.self.inside.names c.remove.new.self c.in-Some.entry.name hidden) (sym c.in-None.is) c.remove.ensures.updates)
+    kept_removed c.pop.new.self.items _ c.in-Some.entry _ c.self.inside.names c.remove.new.self
+    (last_popped _ _ _ _ c.pop.ensures.items c.in-Some.is) c.in-None.is c.self.invariant c.remove.ensures.updates
 
+-- whether the insertion is answered by the value before or by a fault
 pub invariant_of-self-in-Some-hidden : goal.invariant_of-self-in-Some-hidden
 invariant_of-self-in-Some-hidden c =
-    let items = c.pop.ensures.items ∙ ap (λ popped. c.pop.new.self.items ++ option_to_list popped) c.in-Some.is in
-    kept_put
-    c.insert.result
-    c.pop.new.self.items
-    c.in-Some.entry
-    c.self.inside.names
-    c.insert.new.self
-    (subst (λ hidden. OnOk c.insert.result (Updates (slice_cmp nat_cmp) c.self.inside.names c.insert.new.self c.in-Some.entry.name hidden)) (sym c.in-Some-hidden.is) c.insert.ensures.updates)
-    c.insert.ensures.absent
-    (subst (λ all. IsKept all c.self.inside.names) items c.self.invariant)
+    kept_put c.pop.new.self.items _ c.in-Some.entry _ c.self.inside.names c.insert.new.self
+    (last_popped _ _ _ _ c.pop.ensures.items c.in-Some.is) c.in-Some-hidden.is c.self.invariant
+    c.insert.result c.insert.ensures.updates c.insert.ensures.absent
 
 pub invariant_of-self-in-Some-hidden-2 : goal.invariant_of-self-in-Some-hidden-2
 invariant_of-self-in-Some-hidden-2 c =
-    let items = c.pop.ensures.items ∙ ap (λ popped. c.pop.new.self.items ++ option_to_list popped) c.in-Some.is in
-    kept_put
-    c.insert.result
-    c.pop.new.self.items
-    c.in-Some.entry
-    c.self.inside.names
-    c.insert.new.self
-    (subst (λ hidden. OnOk c.insert.result (Updates (slice_cmp nat_cmp) c.self.inside.names c.insert.new.self c.in-Some.entry.name hidden)) (sym c.in-Some-hidden.is) c.insert.ensures.updates)
-    c.insert.ensures.absent
-    (subst (λ all. IsKept all c.self.inside.names) items c.self.invariant)
+    kept_put c.pop.new.self.items _ c.in-Some.entry _ c.self.inside.names c.insert.new.self
+    (last_popped _ _ _ _ c.pop.ensures.items c.in-Some.is) c.in-Some-hidden.is c.self.invariant
+    c.insert.result c.insert.ensures.updates c.insert.ensures.absent

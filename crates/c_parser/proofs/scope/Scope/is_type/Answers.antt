@@ -1,3 +1,4 @@
+-- The goals of `is_type` that are answered by hand.
 use Rattle.std.proofs.Common.{false, ◌∙◌, ap, sym}
 use Rattle.std.specs.Option.{unwrap_or, option_copied}
 use Rattle.c_parser.proofs.Kept.{kept_is_type}

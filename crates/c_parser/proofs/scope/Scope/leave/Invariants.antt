@@ -1,3 +1,4 @@
+-- What the loop of `leave` keeps.
 use Rattle.std.proofs.Common.{◌≡◌, ◌≤◌, length, take}
 use Rattle.c_parser.proofs.scope.Scope.leave.Given as goal
 

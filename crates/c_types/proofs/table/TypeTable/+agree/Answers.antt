@@ -15,7 +15,8 @@ agree-returns-then-eq t c =
 
 pub parameters_agree-returns-then-left-right : goal.parameters_agree-returns-then-left-right
 parameters_agree-returns-then-left-right t c =
-    let differ = lengths_differ (all_types c.args.self.now) c.parameters-left.result.now c.parameters-right.result.now c.if-left-right.true in
+    let differ = lengths_differ (all_types c.args.self.now) c.parameters-left.result.now
+    c.parameters-right.result.now c.if-left-right.true in
     cc (differ, c.parameters-left.ensures.types, c.parameters-right.ensures.types)
 
 pub parameters_agree-returns-then-not-agree : goal.parameters_agree-returns-then-not-agree
@@ -23,7 +24,8 @@ parameters_agree-returns-then-not-agree t c =
     let xs = c.parameters-left.result.now in
     let ys = c.parameters-right.result.now in
     let i : c.loop-i.i < length ys = omega (arith, c.loop-i-test.true, c.if-left-right.false) in
-    let differ = next_differ (all_types c.args.self.now) xs ys c.loop-i.i _ _ c.agree.result c.loop-i-test.true i c.agree.ensures c.if-not-agree.true in
+    let differ = next_differ (all_types c.args.self.now) xs ys c.loop-i.i _ _ c.agree.result c.loop-i-test.true i
+    c.agree.ensures c.if-not-agree.true in
     cc (differ, c.loop-i.invariant, c.parameters-left.ensures.types, c.parameters-right.ensures.types)
 
 pub parameters_agree-loop-i-preserved : goal.parameters_agree-loop-i-preserved
@@ -31,7 +33,8 @@ parameters_agree-loop-i-preserved t c =
     let xs = c.parameters-left.result.now in
     let ys = c.parameters-right.result.now in
     let i : c.loop-i.i < length ys = omega (arith, c.loop-i-test.true, c.if-left-right.false) in
-    let same = next_agree (all_types c.args.self.now) xs ys c.loop-i.i _ _ c.agree.result c.loop-i-test.true i c.agree.ensures c.if-not-agree.false in
+    let same = next_agree (all_types c.args.self.now) xs ys c.loop-i.i _ _ c.agree.result c.loop-i-test.true i
+    c.agree.ensures c.if-not-agree.false in
     cc (same, c.loop-i.invariant)
 
 pub parameters_agree-returns : goal.parameters_agree-returns

@@ -15,4 +15,5 @@ decreases-parameters_agree l = 3 * l.a.0
 
 abbrev pub invariant-parameters_agree-loop-i : goal.invariant-parameters_agree-loop-i
 invariant-parameters_agree-loop-i l =
-    all_agree (types_at (all_types l.self) l.left) (types_at (all_types l.self) l.right) ≡ all_agree (types_at (all_types l.self) (drop l.i l.left)) (types_at (all_types l.self) (drop l.i l.right))
+    all_agree (types_at (all_types l.self) l.left) (types_at (all_types l.self) l.right)
+    ≡ all_agree (types_at (all_types l.self) (drop l.i l.left)) (types_at (all_types l.self) (drop l.i l.right))

@@ -15,5 +15,7 @@ decreases-compose_parameters l = 3 * l.a.0
 
 abbrev pub invariant-compose_parameters-loop-i : goal.invariant-compose_parameters-loop-i
 invariant-compose_parameters-loop-i l =
-    MakesTypes l.initial.self l.self l.made.items (all_composites (types_at (all_types l.initial.self) (take l.i l.left.items)) (types_at (all_types l.initial.self) (take l.i l.right.items)))
+    MakesTypes l.initial.self l.self l.made.items
+    (all_composites (types_at (all_types l.initial.self) (take l.i l.left.items))
+    (types_at (all_types l.initial.self) (take l.i l.right.items)))
     × AddsTypes l.initial.self l.self

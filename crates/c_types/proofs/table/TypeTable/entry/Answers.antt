@@ -21,7 +21,8 @@ returns c =
     record {
       entry = read ∙ ap (λ (t : Types). entry_at t id.0) c.self.view_is;
       shows = subst (λ (t : Types). ShowsType t id m.shape) c.self.view_is
-          (subst (λ (e : Made). ShowsType old id e.shape) (sym read) (shows old id below (c.self.invariant.refers _ below)));
+          (subst (λ (e : Made). ShowsType old id e.shape) (sym read)
+          (shows old id below (c.self.invariant.refers _ below)));
       layout = subst (λ (t : Types). KeepsLayout m.shape m.layout (type_of t id) (structures_of t)) c.self.view_is
           (subst (λ (e : Made). KeepsLayout e.shape e.layout (type_of old id) (structures_of old)) (sym read)
           (c.self.invariant.layouts id below));

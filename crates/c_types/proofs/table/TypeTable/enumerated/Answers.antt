@@ -4,7 +4,8 @@ use Rattle.c_types.specs.declared.shape.TypeId.{TypeId}
 use Rattle.c_types.specs.Types.{Types}
 use Rattle.c_types.specs.Making.{MakesEnumerated}
 use Rattle.c_types.specs.Inner.{types_of, parts_of, compound_of, IsSound}
-use Rattle.c_types.proofs.WithEnumeration.{fields-with_enumerated_type, sound-with_enumerated_type, makes-with_enumerated_type}
+use Rattle.c_types.proofs.WithEnumeration.{fields-with_enumerated_type, sound-with_enumerated_type}
+use Rattle.c_types.proofs.WithEnumeration.{makes-with_enumerated_type}
 use Rattle.c_types.proofs.table.TypeTable.enumerated.Goals as goal
 
 pub invariant_of-self-2 : goal.invariant_of-self-2

@@ -6,4 +6,6 @@ use Rattle.c_types.proofs.table.TypeTable.new.Goals as goal
 
 pub invariant_of-result : goal.invariant_of-result
 invariant_of-result c =
-    subst IsSound (sym (fresh_is _ _ _ (c.in_ok-made.ensures.items ∙ c.basics.ensures) c.new.ensures.items c.new-2.ensures.items)) sound-fresh
+    subst IsSound
+    (sym (fresh_is _ _ _ (c.in_ok-made.ensures.items ∙ c.basics.ensures) c.new.ensures.items
+    c.new-2.ensures.items)) sound-fresh

@@ -1,5 +1,6 @@
 -- One more function type: the table stays sound, and has made it.
-use Rattle.std.proofs.Common.{◌≡◌, ℕ, ◌<◌, [], ◌∷◌, ◌++◌, List, None, All, false, is_err, length, ap, sym, subst, ◌∙◌, rules}
+use Rattle.std.proofs.Common.{◌≡◌, ℕ, ◌<◌, [], ◌∷◌, ◌++◌, List, None, All, false, is_err, length, ap, sym, subst, ◌∙◌}
+use Rattle.std.proofs.Common.{rules}
 use Rattle.c_types.specs.declared.parts.Made.{Made}
 use Rattle.c_types.specs.declared.parts.Signature.{Signature}
 use Rattle.c_types.specs.declared.shape.Shape.TheVariants as s
@@ -9,7 +10,8 @@ use Rattle.c_types.specs.CType.{Plain, Function, type_of, types_at, all_types, n
 use Rattle.c_types.specs.Making.{MakesType}
 use Rattle.c_types.specs.Composite.{AddsTypes}
 use Rattle.c_types.specs.Inner.{types_of, parts_of, IsSound}
-use Rattle.c_types.proofs.WithFunction.{fields-with_function_type, sound-with_function_type, makes-with_function_type, function_entry, IsBelow, Counts, pushed}
+use Rattle.c_types.proofs.WithFunction.{fields-with_function_type, sound-with_function_type, makes-with_function_type}
+use Rattle.c_types.proofs.WithFunction.{function_entry, IsBelow, Counts, pushed}
 use Rattle.c_types.proofs.table.TypeTable.push_function.Goals as goal
 
 pub invariant_of-self-else-is_err : goal.invariant_of-self-else-is_err
@@ -17,7 +19,13 @@ invariant_of-self-else-is_err c =
     let old = types_of c.self.inside in
     let sig = c.args.signature in
     let n = c.args.parts in
-    let entry : Made = record { shape = s.Function (length c.self.inside.functions.items); quals = no_quals; layout = None; parts = n } in
+    let entry : Made = record {
+      shape = s.Function (length c.self.inside.functions.items);
+      quals =
+          no_quals;
+      layout = None;
+      parts = n;
+    } in
     let no_fault : is_err c.push-2.result ≡ false = cc in
     let functions : c.push-2.new.self.items ≡ c.self.inside.functions.items ++ sig ∷ [] =
     pushed c.push-2.result _ _ _ no_fault c.push-2.ensures.items in
@@ -40,7 +48,13 @@ returns-clause-made c =
     let old = types_of c.self.inside in
     let sig = c.args.signature in
     let n = c.args.parts in
-    let entry : Made = record { shape = s.Function (length c.self.inside.functions.items); quals = no_quals; layout = None; parts = n } in
+    let entry : Made = record {
+      shape = s.Function (length c.self.inside.functions.items);
+      quals =
+          no_quals;
+      layout = None;
+      parts = n;
+    } in
     let id : TypeId = record { 0 = c.len.result } in
     let no_fault : is_err c.push-2.result ≡ false = cc in
     let functions : c.push-2.new.self.items ≡ c.self.inside.functions.items ++ sig ∷ [] =
@@ -72,7 +86,13 @@ returns-clause-more c =
     let old = types_of c.self.inside in
     let sig = c.args.signature in
     let n = c.args.parts in
-    let entry : Made = record { shape = s.Function (length c.self.inside.functions.items); quals = no_quals; layout = None; parts = n } in
+    let entry : Made = record {
+      shape = s.Function (length c.self.inside.functions.items);
+      quals =
+          no_quals;
+      layout = None;
+      parts = n;
+    } in
     let no_fault : is_err c.push-2.result ≡ false = cc in
     let functions : c.push-2.new.self.items ≡ c.self.inside.functions.items ++ sig ∷ [] =
     pushed c.push-2.result _ _ _ no_fault c.push-2.ensures.items in
@@ -90,5 +110,10 @@ returns-clause-more c =
       compounds = c.self.inside.compounds;
       enumerations = c.self.inside.enumerations;
     }) in
-    let more : AddsTypes old new = record { more = function_entry old n ∷ []; functions = parts_of sig ∷ []; is = same } in
+    let more : AddsTypes old new = record {
+      more = function_entry old n ∷ [];
+      functions = parts_of sig ∷ [];
+      is =
+          same;
+    } in
     subst (λ (t : Types). AddsTypes t new) c.self.view_is more

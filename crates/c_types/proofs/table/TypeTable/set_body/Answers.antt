@@ -1,5 +1,6 @@
 -- A structure or union has got its body: the table stays sound, and nothing else has changed.
-use Rattle.std.proofs.Common.{◌≡◌, ◌<◌, List, Some, None, length, map, ap, sym, subst, ◌∙◌, arith, slice_set, slice_index_or}
+use Rattle.std.proofs.Common.{◌≡◌, ◌<◌, List, Some, None, length, map, ap, sym, subst, ◌∙◌, arith, slice_set}
+use Rattle.std.proofs.Common.{slice_index_or}
 use Rattle.std.proofs.lemmas.List.{map-set, get_or-map, length-map}
 use Rattle.c_types.specs.declared.member.Member.{Member}
 use Rattle.c_types.specs.declared.parts.CompoundType.{CompoundType}
@@ -19,8 +20,10 @@ invariant_of-self c =
     let item = c.index_mut.result.now in
     let next : CompoundType = record { is_union = item.is_union; body = Some c.args.body } in
     let same = map-set compound_of c.self.inside.compounds.items n next in
-    let below : n < length old.compounds = subst (λ (t : Types). n < length t.compounds) (sym c.self.view_is) c.requires.is_there in
-    let none : (parts_at old n).body ≡ None = subst (λ (t : Types). (parts_at t n).body ≡ None) (sym c.self.view_is) c.requires.incomplete in
+    let below : n < length old.compounds =
+    subst (λ (t : Types). n < length t.compounds) (sym c.self.view_is) c.requires.is_there in
+    let none : (parts_at old n).body ≡ None =
+    subst (λ (t : Types). (parts_at t n).body ≡ None) (sym c.self.view_is) c.requires.incomplete in
     let there : n < length items = omega (arith, below, length-map items compound_of) in
     let parts : parts_at old n ≡ compound_of (slice_index_or items n item) =
     get_or-map compound_of items n item (incomplete false) there in
@@ -28,13 +31,15 @@ invariant_of-self c =
     ap (λ (x : CompoundType). x.is_union) c.index_mut.ensures.value
     ∙ sym (ap (λ (x : CompoundParts). x.is_union) parts) in
     let members : All (λ (m : Member). m.of.0 < count_of old) c.args.body.members.items =
-    subst (λ (t : Types). All (λ (m : Member). m.of.0 < count_of t) c.args.body.members.items) (sym c.self.view_is) c.requires.members in
+    subst (λ (t : Types). All (λ (m : Member). m.of.0 < count_of t) c.args.body.members.items) (sym c.self.view_is)
+    c.requires.members in
     subst (λ (cs : List CompoundParts). IsSound (record {
       made = old.made;
       functions = old.functions;
       compounds = cs;
       enumerations = old.enumerations;
-    })) (sym (same ∙ ap (λ u. slice_set old.compounds n (record { is_union = u; body = Some (body_of c.args.body) })) union))
+    })) (sym (same
+    ∙ ap (λ u. slice_set old.compounds n (record { is_union = u; body = Some (body_of c.args.body) })) union))
     (sound-with_body old n (body_of c.args.body) c.self.invariant below none members)
 
 pub returns-clause-changed : goal.returns-clause-changed
@@ -44,11 +49,14 @@ returns-clause-changed c =
     let items = c.self.inside.compounds.items in
     let item = c.index_mut.result.now in
     let next : CompoundType = record { is_union = item.is_union; body = Some c.args.body } in
-    let below : n < length old.compounds = subst (λ (t : Types). n < length t.compounds) (sym c.self.view_is) c.requires.is_there in
+    let below : n < length old.compounds =
+    subst (λ (t : Types). n < length t.compounds) (sym c.self.view_is) c.requires.is_there in
     let there : n < length items = omega (arith, below, length-map items compound_of) in
-    let parts : parts_at old n ≡ compound_of (slice_index_or items n item) = get_or-map compound_of items n item (incomplete false) there in
+    let parts : parts_at old n ≡ compound_of (slice_index_or items n item) =
+    get_or-map compound_of items n item (incomplete false) there in
     let union : item.is_union ≡ (parts_at old n).is_union =
-    ap (λ (x : CompoundType). x.is_union) c.index_mut.ensures.value ∙ sym (ap (λ (x : CompoundParts). x.is_union) parts) in
+    ap (λ (x : CompoundType). x.is_union) c.index_mut.ensures.value
+    ∙ sym (ap (λ (x : CompoundParts). x.is_union) parts) in
     let changed : record {
       made = old.made;
       functions = old.functions;
@@ -67,7 +75,8 @@ returns-clause-changed c =
       functions = old.functions;
       compounds = map compound_of (slice_set items n next);
       enumerations = old.enumerations;
-    } ≡ with_body t n (record { is_union = (parts_at t n).is_union; body = Some (body_of c.args.body) })) c.self.view_is changed
+    } ≡ with_body t n (record { is_union = (parts_at t n).is_union; body = Some (body_of c.args.body) }))
+    c.self.view_is changed
 
 pub returns-clause-grows : goal.returns-clause-grows
 returns-clause-grows c =

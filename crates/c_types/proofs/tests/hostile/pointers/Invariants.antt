@@ -3,5 +3,5 @@ use Rattle.std.proofs.Common.{◌<◌, ◌≤◌}
 use Rattle.c_types.specs.Types.{count_of}
 use Rattle.c_types.proofs.tests.hostile.pointers.Given as goal
 
-abbrev pub invariant-loop-_line : goal.invariant-loop-_line
-invariant-loop-_line l = (l.id.0 < count_of l.table) × (count_of l.fn.table ≤ count_of l.table)
+abbrev pub invariant-loop-line : goal.invariant-loop-line
+invariant-loop-line l = (l.id.0 < count_of l.table) × (count_of l.fn.table ≤ count_of l.table)

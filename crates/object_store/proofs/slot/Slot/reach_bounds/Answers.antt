@@ -4,9 +4,15 @@ use Rattle.object_store.specs.Reach.{Access}
 use Rattle.object_store.proofs.ReachRows.{bounds_rows, mark_rows}
 use Rattle.object_store.proofs.slot.Slot.reach_bounds.Goals as goal
 
-pub returns-then-stores : goal.returns-then-stores
-returns-then-stores c =
-    let a : Access = record { object = Some c.args.self.now; place = c.args.place; len = c.args.len; align = c.args.align } in
+pub returns-then-stores-clause-table : goal.returns-then-stores-clause-table
+returns-then-stores-clause-table c =
+    let a : Access = record {
+      object = Some c.args.self.now;
+      place = c.args.place;
+      len = c.args.len;
+      align =
+          c.args.align;
+    } in
     let same_len : c.args.place.offset + c.args.len - c.args.place.offset ≡ c.args.len = omega arith in
     rw (
       bounds_rows a c.args.by (sym (rw c.size.ensures at c.has_wrong_bounds.ensures) ∙ c.if-has_wrong_bounds.false)

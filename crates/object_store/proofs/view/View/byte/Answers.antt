@@ -9,5 +9,6 @@ use Rattle.object_store.proofs.view.View.byte.Goals as goal
 pub returns : goal.returns
 returns c =
     let cells : List Cell = c.self.inside.cells.now in
-    let same : length cells ≡ length c.args.self.now = sym (length-map cells (λ x. x.byte)) ∙ ap length c.self.view_is in
+    let same : length cells ≡ length c.args.self.now = sym (length-map cells (λ x. x.byte))
+    ∙ ap length c.self.view_is in
     rw (← c.self.view_is, slice_get-map, slice_get-get_or cells c.args.index (stored_cell None) (omega arith)) refl

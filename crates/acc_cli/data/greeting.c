@@ -1,0 +1,1 @@
+int main(void){putchar(104);putchar(105);putchar(10);return 40+2;}

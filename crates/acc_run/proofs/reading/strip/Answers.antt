@@ -1,8 +1,0 @@
-use Rattle.acc_run.proofs.Fronts.{stripped}
-use Rattle.acc_run.proofs.reading.strip.Goals as goal
-
-pub returns-clause-found : goal.returns-clause-found
-returns-clause-found c = (stripped c.args.bytes.now c.args.text.now c.strip_prefix.result c.strip_prefix.ensures.cases).0
-
-pub returns-clause-none : goal.returns-clause-none
-returns-clause-none c = (stripped c.args.bytes.now c.args.text.now c.strip_prefix.result c.strip_prefix.ensures.cases).1

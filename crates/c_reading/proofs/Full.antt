@@ -1,0 +1,19 @@
+-- The spelling of a well-formed tree, followed by what can't go on with it, is read as that tree, class by class.
+pub mod Law
+pub mod Steps
+pub mod Ends
+pub mod DeclaratorEnds
+pub mod Expr
+pub mod Unary
+pub mod Infix
+pub mod Postfix
+pub mod Declarator
+pub mod Innermost
+pub mod Suffix
+pub mod Specifier
+pub mod Specifiers
+pub mod Initializer
+pub mod Declaration
+pub mod Block
+pub mod Statement
+pub mod Unit

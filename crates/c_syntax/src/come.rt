@@ -1,7 +1,0 @@
-/// Whether a type has come: none, basic words, or another that stands alone (6.7.2p2).
-#[derive(Clone, Copy)]
-pub enum Come {
-    Nothing,
-    Basic,
-    Other,
-}

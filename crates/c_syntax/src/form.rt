@@ -1,8 +1,0 @@
-/// Which declarators may stand at a place: those that declare an identifier, those that omit it (6.7.7), or both, as in
-/// a parameter declaration (6.7.6.3).
-#[derive(Clone, Copy)]
-pub enum Form {
-    Named,
-    Abstract,
-    Parameter,
-}

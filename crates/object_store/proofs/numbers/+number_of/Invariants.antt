@@ -1,0 +1,6 @@
+-- It goes down the cells.
+use Rattle.std.proofs.Common.{length}
+use Rattle.object_store.proofs.numbers.+number_of.Given as goal
+
+abbrev pub decreases-number_of : goal.decreases-number_of
+decreases-number_of l = length l.cells.now
