@@ -6,45 +6,55 @@ use Rattle.c_types.specs.CType.{CType, CTypes, Bare, Plain, Array, BasicType, Po
 use Rattle.c_types.specs.CType.{Nil, Cons, number_of}
 use Rattle.c_types.specs.Compatible.{agree, bare_agree, all_agree, same_bool, same_quals, lengths_agree}
 
+-- equality of numbers doesn't see which comes first
 same_number : (m n : ℕ) → (m == n) ≡ (n == m)
 same_number m n = grind arith
 
+-- a number is equal to itself
 pub own_number : (n : ℕ) → (n == n) ≡ true
 own_number n = grind arith
 
+-- nor does equality of truth values
 same_bool-sym : (a b : Bool) → same_bool a b ≡ same_bool b a
 same_bool-sym true true = refl
 same_bool-sym true false = refl
 same_bool-sym false true = refl
 same_bool-sym false false = refl
 
+-- a truth value is equal to itself
 pub same_bool-own : (a : Bool) → same_bool a a ≡ true
 same_bool-own true = refl
 same_bool-own false = refl
 
+-- two conditions that are equal to two others
 both : (a b c d : Bool) → a ≡ c → b ≡ d → (a && b) ≡ (c && d)
 both a b c d p q = ap (λ x. x && b) p ∙ ap (λ y. c && y) q
 
+-- the same qualifiers, whichever type comes first
 same_quals-sym : (q r : Quals) → same_quals q r ≡ same_quals r q
 same_quals-sym q r =
     both _ _ _ _ (both _ _ _ _ (same_bool-sym q.constant r.constant) (same_bool-sym q.volatile r.volatile))
     (same_bool-sym q.restricted r.restricted)
 
+-- a type has its own qualifiers
 pub same_quals-own : (q : Quals) → same_quals q q ≡ true
 same_quals-own q =
     both _ _ true true (both _ _ true true (same_bool-own q.constant) (same_bool-own q.volatile))
     (same_bool-own q.restricted)
 
+-- lengths that agree, whichever comes first
 lengths-sym : (m n : Option ℕ) → lengths_agree m n ≡ lengths_agree n m
 lengths-sym None None = refl
 lengths-sym None (Some n) = refl
 lengths-sym (Some m) None = refl
 lengths-sym (Some m) (Some n) = same_number m n
 
+-- a length agrees with itself
 pub lengths-own : (m : Option ℕ) → lengths_agree m m ≡ true
 lengths-own None = refl
 lengths-own (Some m) = own_number m
 
+-- compatible types, whichever comes first
 mutual
   unfolding agree bare_agree all_agree
 
@@ -70,10 +80,12 @@ mutual
   all_agree-sym Nil (Cons q qs) = refl
   all_agree-sym (Cons p ps) Nil = refl
 
+-- what holds, holds whether it counts or not
 pub either_way : (strict s : Bool) → s ≡ true → (not strict || s) ≡ true
 either_way true s e = e
 either_way false s e = refl
 
+-- a type is compatible with itself
 mutual
   unfolding agree bare_agree all_agree
 

@@ -1,9 +1,9 @@
 -- What a structure or union that is completed is as a tree.
-use Rattle.std.proofs.Common.{◌≡◌, ℕ, List, map, ap, subst, sym, ◌∙◌, slice_set}
+use Rattle.std.proofs.Common.{◌≡◌, ℕ, List, map, ap, sym, ◌∙◌, slice_set}
 use Rattle.std.specs.Prelude.{Bool, Some}
 use Rattle.c_types.specs.declared.shape.TypeId.{TypeId}
 use Rattle.c_types.specs.Types.{Types, CompoundParts, CompoundBody}
-use Rattle.c_types.specs.CType.{CType, type_of, all_types}
+use Rattle.c_types.specs.CType.{type_of, all_types}
 use Rattle.c_types.specs.Structures as st
 use Rattle.c_types.specs.Structures.{Structure, structure_at, structures_of}
 use Rattle.c_types.specs.Making.{Grows}

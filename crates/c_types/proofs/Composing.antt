@@ -27,6 +27,7 @@ use Rattle.c_types.specs.Inner.{KeepsLayout, parts_of, compound_of}
 use Rattle.c_types.proofs.Kept.{types_then, grows_own, grows_then}
 use Rattle.c_types.proofs.Composites.{left_true, right_true, agree-loose, next_composite}
 
+-- nothing is added
 pub adds-none : (types : Types) → AddsTypes types types
 adds-none types = record {
   more = [];
@@ -40,6 +41,7 @@ adds-none types = record {
       }) (sym (append-nil types.functions));
 }
 
+-- what is added in two steps is added
 pub adds-then : (old mid new : Types) → AddsTypes old mid → AddsTypes mid new → AddsTypes old new
 adds-then old mid new a b =
     let made : mid.made ≡ old.made ++ a.more = ap (λ (t : Types). t.made) a.is in
@@ -117,6 +119,7 @@ cut made made2 fs fs2 cs e m n old cut_made cut_functions count number a =
     ∙ ap (λ k. record { made = old.made; functions = old.functions; compounds = old.compounds; enumerations = k })
     enumerations
 
+-- types that were there are the same in a table that has more
 types_at-keeps : (old new : Types) (ids : List TypeId) → KeepsTypes old new
     → All (λ (id : TypeId). id.0 < count_of old) ids → types_at (all_types new) ids ≡ types_at (all_types old) ids
 types_at-keeps old new [] k h = refl
@@ -163,6 +166,7 @@ functions_agree (Plain (Function g ps v) q) (Plain (Function g2 qs w) r) i j h =
 functions_agree (Plain (Function g ps v) q) b i j h = absurd j
 functions_agree a b i j h = absurd i
 
+-- the composite of functions, from those of their parts
 composite_functions : (a b : CType) → IsFunction a → IsFunction b
     → Plain (Function (composite_of (gives_of a) (gives_of b)) (all_composites (parameters_of a) (parameters_of b))
     (variadic_of a)) (quals_of a) ≡ composite_of a b

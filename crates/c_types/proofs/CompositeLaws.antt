@@ -9,11 +9,13 @@ use Rattle.c_types.proofs.Composites.{left_true, right_true, both_true}
 use Rattle.c_types.proofs.CompatibleLaws.{own_number, same_bool-own, same_quals-own, lengths-own, either_way}
 use Rattle.c_types.proofs.CompatibleLaws.{bare_agree-own}
 
+-- the length that is known agrees with the first
 first_length : (m n : Option ℕ) → lengths_agree (known_length m n) m ≡ true
 first_length None None = refl
 first_length None (Some n) = refl
 first_length (Some m) n = own_number m
 
+-- and with the second, where the two agree
 second_length : (m n : Option ℕ) → lengths_agree m n ≡ true → lengths_agree (known_length m n) n ≡ true
 second_length None n h = lengths-own n
 second_length (Some m) n h = h
@@ -26,6 +28,7 @@ agree-without (Array t m) (Array u n) = ap (λ x. lengths_agree m n && x) (agree
 agree-without (Plain x q) (Array u n) = refl
 agree-without (Array t m) (Plain y r) = refl
 
+-- the composite is compatible with the first type
 mutual
   unfolding agree bare_agree all_agree composite_of bare_composite all_composites
 
@@ -56,6 +59,7 @@ mutual
       (all-first ps qs (right_true (agree p q false) (all_agree ps qs) h))
   all-first (Cons p ps) Nil h = cc
 
+-- and with the second
 mutual
   unfolding agree bare_agree all_agree composite_of bare_composite all_composites
 

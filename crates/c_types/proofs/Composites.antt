@@ -19,14 +19,17 @@ use Rattle.c_types.specs.Inner.{KeepsLayout, basics}
 use Rattle.c_types.specs.Shapes.{no_entry}
 use Rattle.c_types.proofs.Fresh.{first_entry}
 
+-- of two conditions that hold, the first
 pub left_true : (a b : Bool) → (a && b) ≡ true → a ≡ true
 left_true true b h = refl
 left_true false b h = h
 
+-- and the second
 pub right_true : (a b : Bool) → (a && b) ≡ true → b ≡ true
 right_true true b h = h
 right_true false b h = cc
 
+-- two conditions that hold
 pub both_true : (a b : Bool) → a ≡ true → b ≡ true → (a && b) ≡ true
 both_true a b p q = ap (λ x. x && b) p ∙ q
 
@@ -58,16 +61,20 @@ layout-first (Array t (Some m)) (Array u n) cs l h =
 layout-first (Plain x q) (Array u n) cs l h = h
 layout-first (Array t m) (Plain y r) cs l h = h
 
+-- numbers that are found equal
 equal : (m n : ℕ) → (m == n) ≡ true → m ≡ n
 equal m n h = grind (arith, h)
 
+-- a basic type has the layout that is kept in its place
 basic_layout-number : (a : Basic) → basic_layout a ≡ (slice_index_or basics (number_of a) no_entry).layout
 basic_layout-number a = sym (ap (λ (m : Made). m.layout) (first_entry a))
 
+-- basic types of one number have one layout
 same_basic_layout : (a b : Basic) → number_of a ≡ number_of b → basic_layout a ≡ basic_layout b
 same_basic_layout a b h =
     basic_layout-number a ∙ ap (λ n. (slice_index_or basics n no_entry).layout) h ∙ sym (basic_layout-number b)
 
+-- `int` has the layout of an enumerated type
 int_layout : (a : Basic) → number_of a ≡ 7 → basic_layout a ≡ Some (scalar 4)
 int_layout a h = same_basic_layout a b.Int h
 
@@ -84,6 +91,7 @@ bare_second (Pointer t) (Pointer u) cs h = refl
 bare_second (Function g ps v) (Function g2 qs w) cs h = refl
 bare_second x y cs h = cc
 
+-- the composite has the layout of the second type, where that has one
 layout-second : (a b : CType) (cs : List Structure) (l : Layout) → agree a b false ≡ true → layout_of b cs ≡ Some l
     → layout_of (composite_of a b) cs ≡ Some l
 unfolding agree composite_of
@@ -100,6 +108,7 @@ layout-second (Array t (Some m)) (Array u (Some n)) cs l g h =
 layout-second (Plain x q) (Array u n) cs l g h = cc
 layout-second (Array t m) (Plain y r) cs l g h = cc
 
+-- an array that has a layout has elements that have one
 some_layout : (n : ℕ) (o : Option Layout) → IsSome (option_map (times n) o) → (l : Layout) × (o ≡ Some l)
 some_layout n None h = absurd (cc)
 some_layout n (Some l) h = (l, refl)
@@ -115,6 +124,7 @@ keeps-some of of2 n kept t u v cs cs2 k e same =
     ∙ sym l.1 in
     record { layout = k.layout ∙ sym (ap (option_map (times n)) first); own = k.own }
 
+-- the same, by the length that is given
 pub keeps-first : (of of2 : TypeId) (len : Option ℕ) (n : ℕ) (kept : Option Layout) (t u v : CType)
     (cs cs2 : List Structure) → len ≡ Some n → KeepsLayout (s.Array of len) kept (Array t len) cs
     → v ≡ composite_of t u → cs2 ≡ cs → KeepsLayout (s.Array of2 len) kept (Array v len) cs2
@@ -177,6 +187,7 @@ next_after all new (z ∷ made) (x ∷ xs) (y ∷ ys) (suc i) d e m p q given ne
     ∙ ap (Cons (without_quals (composite_of (type_at all x) (type_at all y))))
     (next_after all new made xs ys i d e m (omega (arith, p)) (omega (arith, q)) (ap rest_of given) next)
 
+-- the same, as the loop counts
 pub next_composite : (all new : List CType) (made xs ys : List TypeId) (i : ℕ) (d e m : TypeId) → i < length xs
     → i < length ys → types_at new made ≡ all_composites (types_at all (take i xs)) (types_at all (take i ys))
     → type_at new m

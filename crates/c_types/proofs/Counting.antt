@@ -1,7 +1,6 @@
 -- How many parts types have.
-use Rattle.std.proofs.Common.{◌≡◌, ℕ, ◌+◌, ◌<◌, ◌≤◌, max, List, [], ◌∷◌, length, drop, refl, ap, sym, ◌∙◌, arith}
-use Rattle.std.proofs.Common.{slice_get, slice_index_or}
-use Rattle.std.specs.Prelude.{Option, Some, None}
+use Rattle.std.proofs.Common.{◌≡◌, ℕ, ◌+◌, ◌<◌, ◌≤◌, List, length, drop, refl, ap, arith}
+use Rattle.std.proofs.Common.{slice_index_or}
 use Rattle.std.proofs.lemmas.List.{drop_more, drop_all}
 use Rattle.c_types.specs.declared.shape.Shape.{Shape}
 use Rattle.c_types.specs.declared.shape.Shape.TheVariants as s
@@ -9,8 +8,8 @@ use Rattle.c_types.specs.declared.shape.Quals.{Quals}
 use Rattle.c_types.specs.declared.shape.TypeId.{TypeId}
 use Rattle.c_types.specs.Types.{FunctionParts}
 use Rattle.c_types.specs.CType.{CType, CTypes, Bare, Plain, Array, BasicType, Pointer, Function, Compound, Enumerated}
-use Rattle.c_types.specs.CType.{Nil, Cons, type_at, types_at, type_with, function_at}
-use Rattle.c_types.specs.PartCount.{part_count, bare_count, all_counts, function_count, height, bare_height}
+use Rattle.c_types.specs.CType.{Nil, Cons, type_at, types_at, type_with}
+use Rattle.c_types.specs.PartCount.{part_count, bare_count, all_counts, height, bare_height}
 use Rattle.c_types.specs.PartCount.{greatest_height, comparisons, bare_comparisons, all_comparisons}
 
 -- qualifiers are no part
@@ -34,6 +33,7 @@ pub no_counts : (all : List CType) (ids : List TypeId) (i : ℕ) → length ids 
     all_counts (types_at all (drop i ids)) ≡ 0
 no_counts all ids i end = ap (λ (xs : List TypeId). all_counts (types_at all xs)) (drop_all i ids end)
 
+-- a type nests no deeper than it has parts
 mutual
   pub height_below : (type : CType) → height type ≤ part_count type
   height_below (Plain bare quals) = bare_height_below bare
@@ -59,6 +59,7 @@ bare_some (Function gives parameters variadic) = omega arith
 bare_some (Compound number) = omega arith
 bare_some (Enumerated number) = omega arith
 
+-- a comparison looks at no more pairs than the first type has parts
 mutual
   pub comparisons_below : (a b : CType) → comparisons a b ≤ part_count a
   comparisons_below (Plain x q) (Plain y r) = bare_comparisons_below x y

@@ -16,27 +16,32 @@ pub end_from_ge : (from : ℕ) (layouts : List Layout) → from ≤ end_from fro
 end_from_ge from [] = omega arith
 end_from_ge from (l ∷ ls) = omega (arith, end_from_ge (round_up from l.align + l.size) ls)
 
+-- one more member: the end from the byte behind it is the end
 pub end_step : (from : ℕ) (xs : List Layout) (i : ℕ) (d e : Layout) (at size : ℕ) → i < length xs
     → at ≡ round_up from (slice_index_or xs i d).align → size ≡ (slice_index_or xs i d).size
     → end_from from (drop i xs) ≡ end_from (at + size) (drop (i + 1) xs)
 end_step from xs i d e at size below a s =
     ap (end_from from) (drop_more xs i d below) ∙ sym (cc (a, s))
 
+-- one more member: its place, and those of the rest
 pub places_step : (from : ℕ) (xs : List Layout) (i : ℕ) (d e : Layout) (at size : ℕ) → i < length xs
     → at ≡ round_up from (slice_index_or xs i d).align → size ≡ (slice_index_or xs i d).size
     → places_from from (drop i xs) ≡ at ∷ places_from (at + size) (drop (i + 1) xs)
 places_step from xs i d e at size below a s =
     ap (places_from from) (drop_more xs i d below) ∙ sym (cc (a, s))
 
+-- each member has a place
 length-places_from : (from : ℕ) (layouts : List Layout) → length (places_from from layouts) ≡ length layouts
 length-places_from from [] = refl
 length-places_from from (l ∷ ls) = let rest = length-places_from (round_up from l.align + l.size) ls in cc
 
+-- of a structure or union
 pub length_places_with : (is_union : Bool) (layouts : List Layout) → length (places_with is_union layouts)
     ≡ length layouts
 length_places_with true layouts = length-map layouts (λ l. 0)
 length_places_with false layouts = length-places_from 0 layouts
 
+-- each type has a layout
 pub length_layouts_of : (types : Types) (ids : List TypeId) (ls : List Layout) → layouts_of types ids ≡ Some ls
     → length ls ≡ length ids
 length_layouts_of types [] ls h = grind arith

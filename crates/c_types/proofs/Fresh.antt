@@ -48,6 +48,7 @@ pub fresh_is : (made : List Made) (functions : List Signature) (compounds : List
     } ≡ fresh
 fresh_is made functions compounds m f c = cc
 
+-- what is always true of a table is true of a new one
 pub sound-fresh : IsSound fresh
 sound-fresh =
     let refers : (id : ℕ) → id < 13 → RefersBelow fresh id (entry_at fresh id).shape =
@@ -84,9 +85,11 @@ sound-fresh =
         subst (λ (m : Made). CountsParts m.parts (type_of fresh id)) (sym e)
         (subst (λ (t : CType). CountsParts 1 t) (sym type) (record { count = refl; bound = omega arith }))
 
+-- a basic type has one of the first thirteen places
 place_below : (basic : Basic) → number_of basic < 13
 place_below basic = grind arith
 
+-- each basic type stands in its place
 pub first_entry : (basic : Basic) → slice_index_or basics (number_of basic) no_entry ≡ entry_of basic
 first_entry b.Void = refl
 first_entry b.Bool = refl

@@ -9,6 +9,7 @@ use Rattle.c_types.specs.Making.{KeepsTypes, MakesType, with_made}
 use Rattle.c_types.specs.Inner.{IsSound}
 use Rattle.c_types.proofs.Kept.{same_structures, grows_by_types}
 
+-- each entry makes a type
 pub length-types_from : (functions : List FunctionParts) (types : List CType) (made : List Made)
     → length (types_from functions types made) ≡ length types + length made
 unfolding types_from
@@ -17,6 +18,7 @@ length-types_from functions types (next ∷ rest) =
     let step = length-types_from functions (types ++ type_with functions types next.shape next.quals ∷ []) rest in
     omega (arith, step, length-append types (type_with functions types next.shape next.quals ∷ []))
 
+-- one more entry makes one more type
 pub types_from-push : (functions : List FunctionParts) (types : List CType) (made : List Made) (last : Made)
     → types_from functions types (made ++ last ∷ []) ≡ types_from functions types made
     ++ type_with functions (types_from functions types made) last.shape last.quals ∷ []
@@ -25,6 +27,7 @@ types_from-push functions types [] last = refl
 types_from-push functions types (next ∷ rest) last =
     types_from-push functions (types ++ type_with functions types next.shape next.quals ∷ []) rest last
 
+-- there are as many types as ids
 pub length-all_types : (types : Types) → length (all_types types) ≡ count_of types
 length-all_types types = omega (arith, length-types_from types.functions [] types.made)
 
@@ -34,6 +37,7 @@ pub record Adds (old new : Types) (id : TypeId) (made : CType) : Type 0 where
   pub stands_for : type_of new id ≡ made
   pub types : KeepsTypes old new
 
+-- one more entry adds the type that its shape says
 pub adds-with_made : (old : Types) (id : TypeId) (next : Made) → id.0 ≡ count_of old →
     Adds old (with_made old next) id (type_with old.functions (all_types old) next.shape next.quals)
 adds-with_made old id next place =
@@ -62,6 +66,7 @@ makes old new id made sound adds same count =
       enumerations = count;
     }
 
+-- the same of a sound table, where nothing else changes
 pub makes-with_made : (old new : Types) (id : TypeId) (next : Made) → IsSound old → new ≡ with_made old next →
     id.0 ≡ count_of old →
     MakesType old new id (type_with old.functions (all_types old) next.shape next.quals)

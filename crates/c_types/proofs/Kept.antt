@@ -3,7 +3,7 @@ use Rattle.std.proofs.Common.{◌≡◌, ◌≢◌, ◌⊎◌, ℕ, zero, suc, �
 use Rattle.std.proofs.Common.{subst, ◌∙◌, arith, slice_set, inl, inr}
 use Rattle.std.specs.Prelude.{Bool, false, ◌||◌, Option, Some, None, IfSome, option_map}
 use Rattle.std.proofs.lemmas.Bool.{cases_eq}
-use Rattle.std.proofs.lemmas.List.{get_or_append_left, get_or-set_same, get_or-set_other, length-map, length-append}
+use Rattle.std.proofs.lemmas.List.{get_or_append_left, get_or-set_same, get_or-set_other, length-append}
 use Rattle.std.proofs.lemmas.List.Elements.{All-head, All-tail}
 use Rattle.std.proofs.Math.ListN.{length-set}
 use Rattle.c_types.specs.declared.layout.Layout.{Layout}
@@ -14,22 +14,26 @@ use Rattle.c_types.specs.CType.{CType, Plain, Array, BasicType, Pointer, Functio
 use Rattle.c_types.specs.CType.{type_of}
 use Rattle.c_types.specs.Structures as st
 use Rattle.c_types.specs.Structures.{Structure, StructureBody, structure_at, structures_of, no_members}
-use Rattle.c_types.specs.Layouts.{layout_of, structure_layout, times}
+use Rattle.c_types.specs.Layouts.{layout_of, times}
 use Rattle.c_types.specs.Making.{KeepsTypes, KeepsStructures, Grows, MakesType}
 use Rattle.c_types.specs.Inner.{IsSound, HasMembersIn}
 
+-- a table keeps its types
 pub types_own : (types : Types) → KeepsTypes types types
 types_own types = record { count = omega arith; same = λ id h. refl }
 
+-- types that are kept in two steps are kept
 pub types_then : (old mid new : Types) → KeepsTypes old mid → KeepsTypes mid new → KeepsTypes old new
 types_then old mid new a b = record {
   count = omega (arith, a.count, b.count);
   same = λ id h. b.same id (omega (arith, h, a.count)) ∙ a.same id h;
 }
 
+-- structures and unions keep what they have
 pub structures_own : (structures : List Structure) → KeepsStructures structures structures
 structures_own structures = record { count = omega arith; kind = λ n h. refl; body = λ n b h. h }
 
+-- and what is kept in two steps
 pub structures_then : (old mid new : List Structure) → KeepsStructures old mid → KeepsStructures mid new →
     KeepsStructures old new
 structures_then old mid new a b = record {
@@ -111,6 +115,7 @@ some_body : (o : Option StructureBody) (l : Layout) → option_map (λ (b : Stru
 some_body None l h = cc
 some_body (Some b) l h = (b, refl)
 
+-- an array that has a layout has elements that have one
 some_layout : (n : ℕ) (o : Option Layout) (l : Layout) → option_map (times n) o ≡ Some l →
     (k : Layout) × (o ≡ Some k)
 some_layout n None l h = cc
@@ -148,6 +153,7 @@ const_stays (Array of (Some m)) old new l keeps h =
     let k = some_layout m (layout_of of old) l h in
     const_stays of old new k.0 keeps k.1
 
+-- members are the same as trees, whatever types come later
 members_stay : (old new : Types) (members : List Member) → KeepsTypes old new →
     All (λ (m : Member). m.of.0 < count_of old) members →
     map (st.typed_member (all_types new)) members ≡ map (st.typed_member (all_types old)) members
@@ -159,6 +165,7 @@ members_stay old new (m ∷ members) keeps h =
     let rest = members_stay old new members keeps (All-tail (λ (m : Member). m.of.0 < count_of old) m members h) in
     cc
 
+-- so is a structure or union
 structure_stays : (old new : Types) (parts : CompoundParts) → KeepsTypes old new → HasMembersIn old parts →
     st.typed_structure (all_types new) parts ≡ st.typed_structure (all_types old) parts
 structure_stays old new parts keeps h =

@@ -15,8 +15,9 @@ use Rattle.c_types.specs.CType.{all_types}
 use Rattle.c_types.specs.Structures as st
 use Rattle.c_types.specs.Structures.{Structure, structure_at, structures_of}
 use Rattle.c_types.specs.Compounds.{members_with, members_at, members_in, member_named, parts_at, incomplete}
-use Rattle.c_types.specs.Inner.{types_of, compound_of, HasMembersIn}
+use Rattle.c_types.specs.Inner.{types_of, compound_of}
 
+-- members of types of the table
 pub all_members_with : (n : ℕ) (names : List (List ℕ)) (types : List TypeId) (places : List ℕ) →
     All (λ (t : TypeId). t.0 < n) types →
     All (λ (m : Member). m.of.0 < n) (members_with names types places)

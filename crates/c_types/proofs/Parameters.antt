@@ -7,10 +7,12 @@ use Rattle.c_types.specs.declared.shape.TypeId.{TypeId}
 use Rattle.c_types.specs.CType.{CType, type_at, types_at}
 use Rattle.c_types.specs.Compatible.{agree, all_agree}
 
+-- a condition that fails
 and-false : (b : Bool) → (b && false) ≡ false
 and-false true = refl
 and-false false = refl
 
+-- lists of different lengths don't agree
 pub lengths_differ : (all : List CType) (xs ys : List TypeId) → length xs ≢ length ys
     → all_agree (types_at all xs) (types_at all ys) ≡ false
 unfolding all_agree
@@ -21,16 +23,19 @@ lengths_differ all (x ∷ xs) (y ∷ ys) h =
     let rest = lengths_differ all xs ys (λ e. h (ap (λ n. suc n) e)) in
     rw rest (and-false _)
 
+-- lists without parameters agree
 pub both_end : (all : List CType) → all_agree (types_at all []) (types_at all []) ≡ true
 unfolding all_agree
 both_end all = refl
 
+-- parameters agree where the first and the rest do
 opened : (all : List CType) (x y : TypeId) (xs ys : List TypeId)
     → all_agree (types_at all (x ∷ xs)) (types_at all (y ∷ ys))
     ≡ (agree (type_at all x) (type_at all y) false && all_agree (types_at all xs) (types_at all ys))
 unfolding all_agree
 opened all x y xs ys = refl
 
+-- the same from an index on
 first_agree : (all : List CType) (xs ys : List TypeId) (i : ℕ) (d e : TypeId) → i < length xs → i < length ys
     → all_agree (types_at all (drop i xs)) (types_at all (drop i ys))
     ≡ (agree (type_at all (slice_index_or xs i d)) (type_at all (slice_index_or ys i e)) false

@@ -1,5 +1,5 @@
 -- Qualifiers change no layout and no count of parts.
-use Rattle.std.proofs.Common.{◌≡◌, ◌+◌, refl, ap, sym, ◌∙◌}
+use Rattle.std.proofs.Common.{◌≡◌, refl, ap, sym, ◌∙◌}
 use Rattle.std.specs.Prelude.{ℕ, Bool, true, false, ◌&&◌, List, Option, Some, None, option_map}
 use Rattle.c_types.specs.declared.layout.Layout.{Layout}
 use Rattle.c_types.specs.declared.shape.Shape.TheVariants as s
@@ -13,12 +13,14 @@ use Rattle.c_types.specs.Qualified.{with_quals, without_quals}
 use Rattle.c_types.specs.Inner.{KeepsLayout}
 use Rattle.c_types.proofs.Composites.{left_true, right_true}
 
+-- a type with more qualifiers has the same layout
 pub layout_of-with_quals : (type : CType) (more : Quals) (ss : List Structure) →
     layout_of (with_quals more type) ss ≡ layout_of type ss
 layout_of-with_quals (Plain bare quals) more ss = refl
 layout_of-with_quals (Array of None) more ss = refl
 layout_of-with_quals (Array of (Some n)) more ss = ap (option_map (times n)) (layout_of-with_quals of more ss)
 
+-- so has one without any
 pub layout_of-without_quals : (type : CType) (ss : List Structure) → layout_of (without_quals type) ss
     ≡ layout_of type ss
 layout_of-without_quals (Plain bare quals) ss = refl
@@ -35,6 +37,7 @@ keeps-array of of2 (Some n) kept type type2 ss ss2 k e = record {
   own = k.own;
 }
 
+-- a truth value that is equal to false
 same_false : (a : Bool) → same_bool a false ≡ true → a ≡ false
 same_false false h = refl
 same_false true h = sym h

@@ -15,6 +15,7 @@ use Rattle.c_types.specs.CType.{all_types, void}
 use Rattle.c_types.specs.Shapes.{RefersBelow, ShowsType, entry_at, no_entry}
 use Rattle.c_types.proofs.Grows.{length-types_from}
 
+-- types that are made in two steps
 pub types_from-append : (functions : List FunctionParts) (types : List CType) (a b : List Made)
     → types_from functions types (a ++ b) ≡ types_from functions (types_from functions types a) b
 unfolding types_from
@@ -32,6 +33,7 @@ types_from-front functions types (next ∷ rest) =
     let more = types_from-front functions (types ++ w ∷ []) rest in
     (w ∷ more.0, more.1 ∙ append_assoc types (w ∷ []) more.0)
 
+-- a list of types is the same, whatever types come later
 types_at-front : (types more : List CType) (ids : List TypeId) → All (λ (p : TypeId). p.0 < length types) ids
     → types_at (types ++ more) ids ≡ types_at types ids
 types_at-front types more [] h = refl
@@ -65,6 +67,7 @@ type_with-front table types more (s.Function number) quals h =
 type_with-front table types more (s.Compound number) quals h = refl
 type_with-front table types more (s.Enumerated number) quals h = refl
 
+-- the first entry makes the first type
 types_from-next : (f : List FunctionParts) (first : List CType) (e : Made) (after : List Made)
     → types_from f first (e ∷ after) ≡ types_from f (first ++ type_with f first e.shape e.quals ∷ []) after
 unfolding types_from

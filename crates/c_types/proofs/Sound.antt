@@ -10,7 +10,6 @@ use Rattle.c_types.specs.declared.shape.TypeId.{TypeId}
 use Rattle.c_types.specs.declared.parts.Made.{Made}
 use Rattle.c_types.specs.Types.{Types, CompoundParts, CompoundBody, count_of}
 use Rattle.c_types.specs.Structures.{Structure, structures_of}
-use Rattle.c_types.specs.PartCount.{part_count, most_parts}
 use Rattle.c_types.specs.Inner.{IsSound, KeepsLayout, CountsParts, HasMembersIn}
 use Rattle.c_types.specs.CType.{CType, type_of, type_with, all_types}
 use Rattle.c_types.specs.Shapes.{RefersBelow, no_entry, entry_at}

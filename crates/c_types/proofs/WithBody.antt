@@ -1,9 +1,9 @@
 -- A structure or union that is completed changes no layout that was there.
-use Rattle.std.proofs.Common.{◌≡◌, ℕ, zero, suc, ◌<◌, List, [], ◌∷◌, length, All, map, refl, ap, sym, subst, ◌∙◌}
-use Rattle.std.proofs.Common.{arith, slice_set, slice_get}
+use Rattle.std.proofs.Common.{◌≡◌, ℕ, ◌<◌, List, [], ◌∷◌, length, All, map, refl, ap, sym, subst, ◌∙◌}
+use Rattle.std.proofs.Common.{arith, slice_set, slice_get, slice_index_or}
 use Rattle.std.specs.Prelude.{Bool, false, Option, Some, None, option_map, IsSome}
 use Rattle.std.proofs.Math.ListN.{length-set}
-use Rattle.std.proofs.lemmas.List.{map-set, length-map}
+use Rattle.std.proofs.lemmas.List.{map-set, get_or-map, length-map}
 use Rattle.std.proofs.lemmas.List.Elements.{All-set}
 use Rattle.c_types.specs.declared.layout.Layout.{Layout}
 use Rattle.c_types.specs.declared.member.Member.{Member}
@@ -11,20 +11,23 @@ use Rattle.c_types.specs.declared.shape.Shape.{Shape}
 use Rattle.c_types.specs.declared.shape.Shape.TheVariants as s
 use Rattle.c_types.specs.declared.shape.Quals.{Quals}
 use Rattle.c_types.specs.declared.shape.TypeId.{TypeId}
+use Rattle.c_types.specs.declared.parts.CompoundType.{CompoundType}
+use Rattle.c_types.specs.declared.parts.Body.{Body}
 use Rattle.c_types.specs.Types.{Types, CompoundParts, CompoundBody, FunctionParts, count_of}
 use Rattle.c_types.specs.CType.{CType, Plain, type_of, type_with, type_at, function_at, all_types}
 use Rattle.c_types.specs.Shapes.{RefersBelow, entry_at}
 use Rattle.c_types.specs.Structures as st
 use Rattle.c_types.specs.Structures.{Structure, structure_at, structures_of}
-use Rattle.c_types.specs.Layouts.{layout_of, places_with, places_from}
-use Rattle.c_types.specs.Making.{KeepsTypes, KeepsStructures, Grows}
+use Rattle.c_types.specs.Layouts.{layout_of, places_with}
+use Rattle.c_types.specs.Making.{KeepsStructures, Grows}
 use Rattle.c_types.specs.Compounds.{with_body, parts_at, incomplete, body_with, structure_with, members_with}
 use Rattle.c_types.specs.Compounds.{typed_members}
-use Rattle.c_types.specs.Inner.{IsSound, KeepsLayout, HasMembersIn}
+use Rattle.c_types.specs.Inner.{IsSound, KeepsLayout, HasMembersIn, compound_of, body_of}
 use Rattle.c_types.proofs.Kept.{structures_set, layout_stays}
 use Rattle.c_types.proofs.Members.{structure-at}
 use Rattle.c_types.proofs.Showing.{shows}
 
+-- what is kept for a type gives its layout, also once a structure or union is complete
 keeps : (fs : List FunctionParts) (all : List CType) (shape : Shape) (kept : Option Layout) (quals : Quals)
     (type : CType)
     (old new : List Structure) → KeepsStructures old new → type ≡ type_with fs all shape quals →
@@ -90,6 +93,7 @@ structures-keep types n body below none =
     (no_body types n none)
     (sym (ap (λ (s : Structure). s.is_union) (structure-at types n))))
 
+-- a table where a structure or union is completed is sound
 pub sound-with_body : (types : Types) (n : ℕ) (body : CompoundBody) → IsSound types → n < length types.compounds →
     (parts_at types n).body ≡ None → All (λ (m : Member). m.of.0 < count_of types) body.members →
     IsSound (with_body types n (record { is_union = (parts_at types n).is_union; body = Some body }))
@@ -156,3 +160,20 @@ typed-body_with types u names ids ls =
         has_const = st.any_const (map (type_of types) ids) (structures_of types);
       });
     }) (typed-members_with (all_types types) names ids (places_with u ls))
+
+-- what is kept, where one has got its body, stands for the list where it has got it
+pub body-set : (cs : List CompoundType) (n : ℕ) (item : CompoundType) (body : Body) → n < length (map compound_of cs) →
+    item ≡ slice_index_or cs n item →
+    map compound_of (slice_set cs n (record { is_union = item.is_union; body = Some body }))
+    ≡ slice_set (map compound_of cs) n (record {
+      is_union = (slice_index_or (map compound_of cs) n (incomplete false)).is_union;
+      body = Some (body_of body);
+    })
+body-set cs n item body below read =
+    let there : n < length cs = omega (arith, below, length-map cs compound_of) in
+    let parts : slice_index_or (map compound_of cs) n (incomplete false) ≡ compound_of (slice_index_or cs n item) =
+    get_or-map compound_of cs n item (incomplete false) there in
+    let kind : item.is_union ≡ (slice_index_or (map compound_of cs) n (incomplete false)).is_union =
+    ap (λ (x : CompoundType). x.is_union) read ∙ sym (ap (λ (x : CompoundParts). x.is_union) parts) in
+    map-set compound_of cs n (record { is_union = item.is_union; body = Some body })
+    ∙ ap (λ u. slice_set (map compound_of cs) n (record { is_union = u; body = Some (body_of body) })) kind

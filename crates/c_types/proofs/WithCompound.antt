@@ -1,7 +1,7 @@
 -- One more structure or union, still incomplete, changes nothing of the types that are there, and is none of them.
 use Rattle.std.proofs.Common.{◌≡◌, ℕ, zero, suc, List, [], ◌∷◌, ◌++◌, length, map, refl, ap, sym, subst, ◌∙◌, arith}
 use Rattle.std.proofs.Common.{length-append}
-use Rattle.std.specs.Prelude.{Bool, Option, Some, None, option_map}
+use Rattle.std.specs.Prelude.{Bool, false, Option, Some, None, Result, is_ok, is_err, option_map, if◌then◌else◌}
 use Rattle.std.proofs.lemmas.List.{map-append, length-map}
 use Rattle.std.proofs.lemmas.List.Elements.{All-push}
 use Rattle.c_types.specs.declared.layout.Layout.{Layout}
@@ -25,6 +25,7 @@ use Rattle.c_types.proofs.Kept.{structures_stay, structures_pushed}
 use Rattle.c_types.proofs.Grows.{adds-with_made}
 use Rattle.c_types.proofs.Sound.{sound-with_made}
 use Rattle.c_types.proofs.WithEnumeration.{compound_is_new}
+use Rattle.c_types.proofs.WithFunction.{pushed}
 
 -- at each number there is the body that was there, or none
 slot : (structures : List Structure) (u : Bool) (n : ℕ) →
@@ -34,11 +35,13 @@ slot [] u (suc n) = refl
 slot (x ∷ structures) u zero = refl
 slot (x ∷ structures) u (suc n) = slot structures u n
 
+-- so the layout is the one that was there, or none
 slot_layout : (structures : List Structure) (u : Bool) (n : ℕ) →
     option_map (λ (b : StructureBody). b.layout) (structure_at (structures ++ no_members u ∷ []) n).body
     ≡ option_map (λ (b : StructureBody). b.layout) (structure_at structures n).body
 slot_layout structures u n = ap (option_map (λ (b : StructureBody). b.layout)) (slot structures u n)
 
+-- no layout changes
 layout_of-incomplete : (type : CType) (structures : List Structure) (u : Bool) →
     layout_of type (structures ++ no_members u ∷ []) ≡ layout_of type structures
 layout_of-incomplete (Plain (BasicType basic) quals) structures u = refl
@@ -49,6 +52,7 @@ layout_of-incomplete (Plain (Enumerated n) quals) structures u = refl
 layout_of-incomplete (Array of None) structures u = refl
 layout_of-incomplete (Array of (Some n)) structures u = ap (option_map (times n)) (layout_of-incomplete of structures u)
 
+-- nor does one that is kept
 kept_layout-incomplete : (shape : Shape) (kept : Option Layout) (structures : List Structure) (u : Bool) →
     kept_layout shape kept (structures ++ no_members u ∷ []) ≡ kept_layout shape kept structures
 kept_layout-incomplete (s.Basic basic) kept structures u = refl
@@ -63,6 +67,7 @@ one_more : (types : Types) (u : Bool) →
     structures_of (with_compound types (incomplete u)) ≡ structures_of types ++ no_members u ∷ []
 one_more types u = map-append (typed_structure (all_types types)) types.compounds (incomplete u ∷ [])
 
+-- the table is sound, with one more structure or union that no type has
 sound-with_compound : (types : Types) (u : Bool) → IsSound types → IsSound (with_compound types (incomplete u))
 sound-with_compound types u sound = record {
   begins = sound.begins;
@@ -101,6 +106,7 @@ abbrev pub with_compound_type : Types → Bool → Types
 with_compound_type types u =
     with_made (with_compound types (incomplete u)) (compound_entry (length types.compounds))
 
+-- and with its type
 pub sound-with_compound_type : (types : Types) (u : Bool) → IsSound types → IsSound (with_compound_type types u)
 sound-with_compound_type types u sound =
     sound-with_made (with_compound types (incomplete u)) (compound_entry (length types.compounds))
@@ -109,11 +115,13 @@ sound-with_compound_type types u sound =
     (record { layout = refl; own = tt })
     (record { count = refl; bound = omega arith })
 
+-- the new structure or union has no members
 none_yet : (structures : List Structure) (u : Bool) →
     (structure_at (structures ++ no_members u ∷ []) (length structures)).body ≡ None
 none_yet [] u = refl
 none_yet (x ∷ structures) u = none_yet structures u
 
+-- the table has made a structure or union
 pub makes-with_compound_type : (types : Types) (u : Bool) (id : TypeId) → IsSound types → id.0 ≡ count_of types →
     MakesCompound types (with_compound_type types u) id u
 makes-with_compound_type types u id sound place =
@@ -160,3 +168,18 @@ fields-with_compound_type made made2 fs cs cs2 n u m p =
     ap (map compound_of) p ∙ map-append compound_of cs ((record { is_union = u; body = None }) ∷ []) in
     let number : length (map compound_of cs) ≡ length cs = length-map cs compound_of in
     cc
+
+-- the same fields, by what the two pushes have left
+pub pushed-compound : {E : Type 0} (made made2 : List Made) (fs : List Signature) (cs cs2 : List CompoundType)
+    (n number : ℕ) (u : Bool) (entry : Made) (r : Result (Unit {0}) E) → number ≡ length cs →
+    entry ≡ record { shape = s.Compound number; quals = no_quals; layout = None; parts = 1 } →
+    made2 ≡ made ++ entry ∷ [] → is_err r ≡ false →
+    cs2 ≡ (if is_ok r then cs ++ (record { is_union = u; body = None }) ∷ [] else cs) →
+    record { made = made2; functions = map parts_of fs; compounds = map compound_of cs2; enumerations = n }
+    ≡ with_compound_type
+    (record { made = made; functions = map parts_of fs; compounds = map compound_of cs; enumerations = n }) u
+pushed-compound made made2 fs cs cs2 n number u entry r place plain m no_fault p =
+    let named : ℕ → Made = λ k. record { shape = s.Compound k; quals = no_quals; layout = None; parts = 1 } in
+    fields-with_compound_type made made2 fs cs cs2 n u
+    (m ∙ ap (λ (e : Made). made ++ e ∷ []) (plain ∙ ap named place))
+    (pushed r cs2 (cs ++ (record { is_union = u; body = None }) ∷ []) cs no_fault p)

@@ -1,7 +1,7 @@
 -- One more enumerated type changes nothing of the types that are there, and is none of them.
-use Rattle.std.proofs.Common.{◌≡◌, ◌≢◌, ℕ, ◌+◌, ◌<◌, List, [], ◌∷◌, ◌++◌, length, map, refl, ap, sym, subst, ◌∙◌}
+use Rattle.std.proofs.Common.{◌≡◌, ◌≢◌, ℕ, ◌+◌, List, [], ◌∷◌, ◌++◌, length, refl, ap, sym, subst, ◌∙◌}
 use Rattle.std.proofs.Common.{arith, slice_get}
-use Rattle.std.specs.Prelude.{Bool, Option, Some, None}
+use Rattle.std.specs.Prelude.{Option, Some, None}
 use Rattle.std.proofs.lemmas.List.{length-map}
 use Rattle.c_types.specs.declared.shape.Shape.{Shape}
 use Rattle.c_types.specs.declared.shape.Shape.TheVariants as s
@@ -9,8 +9,8 @@ use Rattle.c_types.specs.declared.shape.Quals.{Quals}
 use Rattle.c_types.specs.declared.shape.TypeId.{TypeId}
 use Rattle.c_types.specs.declared.parts.Made.{Made}
 use Rattle.c_types.specs.Types.{Types, FunctionParts, CompoundParts, count_of}
-use Rattle.c_types.specs.CType.{CType, Bare, Plain, BasicType, Pointer, Function, Compound, Enumerated, bare_of}
-use Rattle.c_types.specs.CType.{type_of, type_with, function_at, all_types, no_quals}
+use Rattle.c_types.specs.CType.{Compound, Enumerated, bare_of}
+use Rattle.c_types.specs.CType.{type_with, function_at, all_types, no_quals}
 use Rattle.c_types.specs.Shapes.{RefersBelow, entry_at}
 use Rattle.c_types.specs.Structures.{Structure, structures_of, typed_structure}
 use Rattle.c_types.specs.Layouts.{scalar}
@@ -55,6 +55,7 @@ other_compound types id (s.Function n) quals refers e = parts (slice_get types.f
     parts None f = cc
     parts (Some p) f = cc
 
+-- the next enumerated type is none of those that are there
 pub enumeration_is_new : (types : Types) → IsSound types → IsNew types (Enumerated types.enumerations)
 enumeration_is_new types sound id there e =
     let refers = sound.refers id.0 there in
@@ -62,6 +63,7 @@ enumeration_is_new types sound id there e =
     other_enumeration types id.0 (entry_at types id.0).shape (entry_at types id.0).quals refers
     (sym (ap bare_of shown.stands_for) ∙ e)
 
+-- nor is the next structure or union
 pub compound_is_new : (types : Types) → IsSound types → IsNew types (Compound (length (structures_of types)))
 compound_is_new types sound id there e =
     let refers = sound.refers id.0 there in
@@ -69,6 +71,7 @@ compound_is_new types sound id there e =
     other_compound types id.0 (entry_at types id.0).shape (entry_at types id.0).quals refers
     (sym (ap bare_of shown.stands_for) ∙ e)
 
+-- the table is sound, with one more number that no type has
 sound-with_enumeration : (types : Types) → IsSound types → IsSound (with_enumeration types)
 sound-with_enumeration types sound = record {
   begins = sound.begins;
@@ -95,6 +98,7 @@ enumerated_entry number =
 abbrev pub with_enumerated_type : Types → Types
 with_enumerated_type types = with_made (with_enumeration types) (enumerated_entry types.enumerations)
 
+-- and with its type
 pub sound-with_enumerated_type : (types : Types) → IsSound types → IsSound (with_enumerated_type types)
 sound-with_enumerated_type types sound =
     sound-with_made (with_enumeration types) (enumerated_entry types.enumerations)
@@ -103,6 +107,7 @@ sound-with_enumerated_type types sound =
     (record { layout = refl; own = tt })
     (record { count = refl; bound = omega arith })
 
+-- the table has made an enumerated type
 pub makes-with_enumerated_type : (types : Types) (id : TypeId) → IsSound types → id.0 ≡ count_of types →
     MakesEnumerated types (with_enumerated_type types) id
 makes-with_enumerated_type types id sound place =

@@ -25,12 +25,14 @@ use Rattle.c_types.specs.Making.{MakesType, with_made}
 use Rattle.c_types.proofs.Grows.{adds-with_made, makes}
 use Rattle.c_types.proofs.Sound.{sound-with_made}
 
+-- the parts that were there stand in their places
 slice_get-front : (fs : List FunctionParts) (f : FunctionParts) (n : ℕ) → IsSome (slice_get fs n)
     → slice_get (fs ++ f ∷ []) n ≡ slice_get fs n
 slice_get-front [] f n h = cc
 slice_get-front (x ∷ fs) f zero h = refl
 slice_get-front (x ∷ fs) f (suc n) h = slice_get-front fs f n h
 
+-- the new parts stand in the last place
 slice_get-last : (fs : List FunctionParts) (f : FunctionParts) → slice_get (fs ++ f ∷ []) (length fs) ≡ Some f
 slice_get-last [] f = refl
 slice_get-last (x ∷ fs) f = slice_get-last fs f
@@ -40,6 +42,7 @@ abbrev HasFunction : List FunctionParts → Shape → Type 0
 HasFunction fs (s.Function n) = IsSome (slice_get fs n)
 HasFunction fs shape = Unit {0}
 
+-- a shape stands for the same type
 type_with-function : (fs : List FunctionParts) (f : FunctionParts) (types : List CType) (shape : Shape)
     (quals : Quals) → HasFunction fs shape → type_with (fs ++ f ∷ []) types shape quals ≡ type_with fs types shape quals
 type_with-function fs f types (s.Function n) quals h =
@@ -50,6 +53,7 @@ type_with-function fs f types (s.Array of len) quals h = refl
 type_with-function fs f types (s.Compound n) quals h = refl
 type_with-function fs f types (s.Enumerated n) quals h = refl
 
+-- so do the entries
 types_from-function : (fs : List FunctionParts) (f : FunctionParts) (types : List CType) (made : List Made)
     → All (λ (m : Made). HasFunction fs m.shape) made → types_from (fs ++ f ∷ []) types made ≡ types_from fs types made
 unfolding types_from
@@ -61,6 +65,7 @@ types_from-function fs f types (next ∷ rest) h =
     ∙ types_from-function fs f (types ++ type_with fs types next.shape next.quals ∷ []) rest
     (All-tail (λ (m : Made). HasFunction fs m.shape) next rest h)
 
+-- a shape that speaks of a function type speaks of one that is there
 has_function : (types : Types) (id : ℕ) (shape : Shape) → RefersBelow types id shape → HasFunction types.functions shape
 has_function types id (s.Function n) h = some (slice_get types.functions n) h
   where
@@ -75,6 +80,7 @@ has_function types id (s.Array of len) h = tt
 has_function types id (s.Compound n) h = tt
 has_function types id (s.Enumerated n) h = tt
 
+-- no type changes
 pub all_types-with_function : (types : Types) (f : FunctionParts) → IsSound types
     → all_types (with_function types f) ≡ all_types types
 all_types-with_function types f sound =
@@ -82,6 +88,7 @@ all_types-with_function types f sound =
     (All-from_get_or (λ (m : Made). HasFunction types.functions m.shape) types.made no_entry
     (λ i h. has_function types i (entry_at types i).shape (sound.refers i h)))
 
+-- the table is sound, with parts that no type has
 sound-with_function : (types : Types) (f : FunctionParts) → IsSound types → IsSound (with_function types f)
 sound-with_function types f sound = record {
   begins = sound.begins;
@@ -132,6 +139,7 @@ last_function types f sound =
     ap (λ o. Plain (function_at (all_types (with_function types f)) o) no_quals) (slice_get-last types.functions f)
     ∙ ap (λ (all : List CType). Plain (function_at all (Some f)) no_quals) (all_types-with_function types f sound)
 
+-- and with their type
 pub sound-with_function_type : (types : Types) (f : FunctionParts) (count : ℕ) → IsSound types →
     IsBelow (count_of types) f → Counts types f count → IsSound (with_function_type types f count)
 sound-with_function_type types f count sound below counts =
@@ -145,6 +153,7 @@ sound-with_function_type types f count sound below counts =
     })
     (record { count = counts.0 ∙ ap part_count (sym type); bound = counts.1 })
 
+-- the table has made a function type
 pub makes-with_function_type : (types : Types) (f : FunctionParts) (count : ℕ) (id : TypeId) → IsSound types →
     id.0 ≡ count_of types →
     MakesType types (with_function_type types f count) id
@@ -183,3 +192,17 @@ pub pushed : {E X : Type 0} (r : Result (Unit {0}) E) (xs ys zs : List X) → is
     xs ≡ (if is_ok r then ys else zs) → xs ≡ ys
 pushed (Ok u) xs ys zs h e = e
 pushed (Err e) xs ys zs h f = cc
+
+-- the same fields, by what the two pushes have left
+pub pushed-function : {E : Type 0} (made made2 : List Made) (fs fs2 : List Signature) (cs : List CompoundType)
+    (n count number : ℕ) (f : Signature) (entry : Made) (r : Result (Unit {0}) E) → number ≡ length fs →
+    entry ≡ record { shape = s.Function number; quals = no_quals; layout = None; parts = count } →
+    made2 ≡ made ++ entry ∷ [] → is_err r ≡ false → fs2 ≡ (if is_ok r then fs ++ f ∷ [] else fs) →
+    record { made = made2; functions = map parts_of fs2; compounds = map compound_of cs; enumerations = n }
+    ≡ with_function_type
+    (record { made = made; functions = map parts_of fs; compounds = map compound_of cs; enumerations = n })
+    (parts_of f) count
+pushed-function made made2 fs fs2 cs n count number f entry r place plain m no_fault p =
+    let named : ℕ → Made = λ k. record { shape = s.Function k; quals = no_quals; layout = None; parts = count } in
+    fields-with_function_type made made2 fs fs2 cs n count f
+    (m ∙ ap (λ (e : Made). made ++ e ∷ []) (plain ∙ ap named place)) (pushed r fs2 (fs ++ f ∷ []) fs no_fault p)

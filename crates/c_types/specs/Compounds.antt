@@ -6,7 +6,7 @@ use Rattle.c_types.specs.declared.member.Member.{Member}
 use Rattle.c_types.specs.declared.layout.Layout.{Layout}
 use Rattle.c_types.specs.declared.shape.TypeId.{TypeId}
 use Rattle.c_types.specs.Types.{CompoundParts, CompoundBody, Types, count_of}
-use Rattle.c_types.specs.CType.{CType, Plain, Compound, type_of, all_types, no_quals}
+use Rattle.c_types.specs.CType.{CType, Plain, Compound, type_of, no_quals}
 use Rattle.c_types.specs.Structures.{Structure, TypedMember, structure_at, structures_of, no_members, any_const}
 use Rattle.c_types.specs.Structures.{IsIncomplete}
 use Rattle.c_types.specs.Making.{Grows, IsNew}

@@ -4,6 +4,7 @@ use Rattle.std.specs.Prelude.{Err, option_map, nat_le, if◌then◌else◌}
 use Rattle.std.specs.Int.{next_multiple_of}
 use Rattle.acc_num.specs.declared.kind.IntKind.{IntKind}
 use Rattle.acc_num.specs.declared.kind.IntKind.TheVariants as k
+pub use Rattle.acc_num.specs.Kinds.{bytes_of}
 use Rattle.c_types.specs.declared.basic.Basic.{Basic}
 use Rattle.c_types.specs.declared.basic.Basic.TheVariants as b
 use Rattle.c_types.specs.declared.layout.Layout.{Layout}
@@ -31,18 +32,6 @@ kind_of b.Long = Some k.I64
 kind_of b.ULong = Some k.U64
 kind_of b.LongLong = Some k.I64
 kind_of b.ULongLong = Some k.U64
-
--- the bytes of a value of a kind (6.2.6.1p4); `_Bool` takes one
-abbrev pub bytes_of : IntKind → ℕ
-bytes_of k.Bool = 1
-bytes_of k.I8 = 1
-bytes_of k.U8 = 1
-bytes_of k.I16 = 2
-bytes_of k.U16 = 2
-bytes_of k.I32 = 4
-bytes_of k.U32 = 4
-bytes_of k.I64 = 8
-bytes_of k.U64 = 8
 
 -- a scalar of these bytes is aligned to its size (6.2.8p1)
 abbrev pub scalar : ℕ → Layout

@@ -1,5 +1,5 @@
 -- How many parts a type has, each counted as often as it stands in it; how deep it nests; how long a comparison takes.
-use Rattle.std.specs.Prelude.{ℕ, ◌+◌, ◌≤◌, max, Option, Some, None}
+use Rattle.std.specs.Prelude.{ℕ, ◌+◌, max}
 use Rattle.c_types.specs.CType.{CType, CTypes, Bare, Plain, Array, BasicType, Pointer, Function, Compound, Enumerated}
 use Rattle.c_types.specs.CType.{Nil, Cons}
 

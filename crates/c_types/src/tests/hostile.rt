@@ -31,6 +31,20 @@ fn functions(table: &mut TypeTable, lines: u64) -> Result<TypeId, AllocError>
     Ok(id)
 }
 
+// `typedef void F2(F1 *);` so many times, from `void (void)` on
+fn takers(table: &mut TypeTable, lines: u64) -> Result<TypeId, AllocError>
+    ensures there { IfOk result (λ id. id.0 < count_of table.new) }
+    ensures count { IfOk result (λ _. count_of table.old ≤ count_of table.new) }
+{
+    let void = table.basic(Basic::Void);
+    let mut id = table.function(void, &[], false)?;
+    for _line in 0..lines {
+        let to = table.pointer(id)?;
+        id = table.function(void, &[to], false)?;
+    }
+    Ok(id)
+}
+
 // `typedef void F2(F1 *, F1 *);` so many times, from `void (void)` on
 fn doublings(table: &mut TypeTable, lines: u64) -> Result<TypeId, AllocError>
     ensures there { IfOk result (λ id. id.0 < count_of table.new) }
@@ -66,6 +80,18 @@ fn functions_nest_as_deep(rt: HostRuntime) -> Result<(), Fail> {
     assert!(rt; table.compatible(deep, other));
     assert!(rt; table.composite(deep, other).is_ok());
     assert!(rt; functions(&mut table, 4_096).is_err());
+    Ok(())
+}
+
+#[test]
+fn parameters_nest_as_deep(rt: HostRuntime) -> Result<(), Fail> {
+    let mut table = TypeTable::new(rt.alloc())?;
+    let deep = takers(&mut table, 1_364)?;
+    assert_eq!(rt; table.parts(deep), 4_094);
+    let other = takers(&mut table, 1_364)?;
+    assert!(rt; table.compatible(deep, other));
+    assert!(rt; table.composite(deep, other).is_ok());
+    assert!(rt; takers(&mut table, 1_365).is_err());
     Ok(())
 }
 

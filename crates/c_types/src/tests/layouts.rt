@@ -1,4 +1,4 @@
-//! Layouts as gcc 12.2 on x86-64 gives them (`layouts.c`), where a pointer stands as a structure of 16 bytes.
+//! Layouts as gcc 12.2 on x86-64 gives them (`oracles/layouts.c`), where a structure of 16 bytes stands for a pointer.
 
 ghost use Rattle.std.specs.Prelude.{◌≡◌, ◌<◌, ◌≤◌, IfOk, slice_set};
 ghost use Rattle.c_types.specs.Types.{count_of};

@@ -1,5 +1,5 @@
 -- The members as trees.
-use Rattle.std.proofs.Common.{◌≡◌, map, ap, sym, ◌∙◌}
+use Rattle.std.proofs.Common.{map, ap, sym, ◌∙◌}
 use Rattle.std.specs.Prelude.{Option, option_map}
 use Rattle.c_types.specs.declared.parts.Body.{Body}
 use Rattle.c_types.specs.Types.{CompoundParts}

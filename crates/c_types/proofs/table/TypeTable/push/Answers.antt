@@ -6,7 +6,7 @@ use Rattle.c_types.specs.CType.{type_with, all_types}
 use Rattle.c_types.specs.Structures.{structures_of}
 use Rattle.c_types.specs.PartCount.{part_count}
 use Rattle.c_types.specs.Qualified.{MakesMore}
-use Rattle.c_types.specs.Inner.{types_of, IsSound, KeepsLayout, CountsParts}
+use Rattle.c_types.specs.Inner.{types_of, IsSound, KeepsLayout}
 use Rattle.c_types.specs.Shapes.{RefersBelow}
 use Rattle.c_types.specs.Making.{MakesType, at_made, with_made}
 use Rattle.c_types.proofs.Grows.{makes-with_made}
