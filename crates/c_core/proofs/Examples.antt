@@ -86,12 +86,12 @@ too_large : CoreTyped names (one 2147483648) → ⊥
 too_large h = omega (arith, h.1.greatest)
 
 -- `1 + 2L` without its conversion, and with it
-unconverted : CoreTyped names (At int (here 2) (tree.Arithmetic operator.Add k.I32 (one 1) (one_long 2))) → ⊥
-unconverted h = let differ = h.1.2 in cc
+without_conversion : CoreTyped names (At int (here 2) (tree.Arithmetic operator.Add k.I32 (one 1) (one_long 2))) → ⊥
+without_conversion h = let differ = h.1.2 in cc
 
-converted : CoreTyped names (At long (here 2) (tree.Arithmetic operator.Add k.I64
+with_conversion : CoreTyped names (At long (here 2) (tree.Arithmetic operator.Add k.I64
     (At long (here 1) (tree.Convert k.I64 (one 1))) (one_long 2)))
-converted = (refl, (refl, (refl, (tt, small 1 (lit≤ tt))), refl, small_long 2 (lit≤ tt)))
+with_conversion = (refl, (refl, (refl, (tt, small 1 (lit≤ tt))), refl, small_long 2 (lit≤ tt)))
 
 -- the count of a shift may have any kind
 shift : CoreTyped names (At int (here 2) (tree.Arithmetic operator.ShiftLeft k.I32 (one 1) (one_long 2)))
@@ -103,12 +103,12 @@ other_type h = let differ = h.0 in cc
 
 -- ---- objects and pointers
 
-loaded : CoreTyped names (At int (here 1) (tree.Load (scalar.Number k.I32) (local int 0)))
-loaded = (refl, (refl, (tt, refl)))
+load : CoreTyped names (At int (here 1) (tree.Load (scalar.Number k.I32) (local int 0)))
+load = (refl, (refl, (tt, refl)))
 
 -- slot 3 holds no object there
-unmade : CoreTyped names (local int 3) → ⊥
-unmade h = let differ = h.1 in cc
+unmade_slot : CoreTyped names (local int 3) → ⊥
+unmade_slot h = let differ = h.1 in cc
 
 -- a string literal at a token that is none of the unit's
 no_static : CoreTyped names (At int (here 1) (tree.Object (object.Static (here 8)))) → ⊥
@@ -116,38 +116,38 @@ no_static h = let differ = h.1 in cc
 
 -- `*p` is reached through the value of p, not through its place
 star : CoreTyped names
-    (At int (here 1) (tree.Reached by.Star 4 4 (At (to int) (here 2) (tree.Load scalar.Pointer (local (to int) 2)))))
+    (At int (here 1) (tree.Reach by.Star 4 4 (At (to int) (here 2) (tree.Load scalar.Pointer (local (to int) 2)))))
 star = (tt, ((lit< tt, lit≤ tt), lit< tt, lit≤ tt, refl, (tt, (refl, (tt, refl)))))
 
-unloaded : CoreTyped names (At int (here 1) (tree.Reached by.Star 4 4 (local (to int) 2))) → ⊥
-unloaded h = let differ = h.1.3 in cc
+place_as_pointer : CoreTyped names (At int (here 1) (tree.Reach by.Star 4 4 (local (to int) 2))) → ⊥
+place_as_pointer h = let differ = h.1.3 in cc
 
 -- an element of no bytes
-no_size : CoreTyped names (At int (here 1) (tree.Reached by.Star 0 4 (At (to int) (here 2) tree.Null))) → ⊥
+no_size : CoreTyped names (At int (here 1) (tree.Reach by.Star 0 4 (At (to int) (here 2) tree.Null))) → ⊥
 no_size h = omega (arith, h.1.0.0)
 
 -- `x += 1L` works in `long`, `x += 1` without a conversion of the 1 doesn't
-added : CoreTyped names
+add_long : CoreTyped names
     (At int (here 2) (tree.Update (change.Number operator.Add k.I32 k.I64) (local int 0) (one_long 1)))
-added = (refl, (refl, (tt, refl), refl, small_long 1 (lit≤ tt)))
+add_long = (refl, (refl, (tt, refl), refl, small_long 1 (lit≤ tt)))
 
-not_added : CoreTyped names
+add_int : CoreTyped names
     (At int (here 2) (tree.Update (change.Number operator.Add k.I32 k.I64) (local int 0) (one 1))) → ⊥
-not_added h = let differ = h.1.2 in cc
+add_int h = let differ = h.1.2 in cc
 
 -- ---- calls
 
 -- int f(int): f(1), used
-called : CoreTyped names
+call : CoreTyped names
     (At int (here 3) (tree.Call true (Some (content.Scalar (scalar.Number k.I32))) (function of_int)
     (MoreCores (one 1) NoCore)))
-called = (refl, (refl, (tt, refl), (small 1 (lit≤ tt), tt), (refl, (refl, tt)), (lit< tt, lit≤ tt), tt))
+call = (refl, (refl, (tt, refl), (small 1 (lit≤ tt), tt), (refl, (refl, tt)), (lit< tt, lit≤ tt), tt))
 
 -- an argument is missing, or one too many
-missing : CoreTyped names
+missing_argument : CoreTyped names
     (At int (here 3) (tree.Call true (Some (content.Scalar (scalar.Number k.I32))) (function of_int)
     NoCore)) → ⊥
-missing h = h.1.3.1
+missing_argument h = h.1.3.1
 
 too_many : CoreTyped names
     (At int (here 3) (tree.Call true (Some (content.Scalar (scalar.Number k.I32))) (function of_int)
@@ -155,8 +155,8 @@ too_many : CoreTyped names
 too_many h = h.1.3.1.1
 
 -- the value of a void call is used
-void_used : CoreTyped names (At void (here 3) (tree.Call true None (function of_any) (MoreCores (one 1) NoCore))) → ⊥
-void_used h = h.1.5
+use_of_void : CoreTyped names (At void (here 3) (tree.Call true None (function of_any) (MoreCores (one 1) NoCore))) → ⊥
+use_of_void h = h.1.5
 
 -- void f(int, ...): numbers and pointers may follow, a structure may not
 further : CoreTyped names (At void (here 3) (tree.Call false None (function of_any)
@@ -213,17 +213,17 @@ taken_slot : StatementTyped names flow (block 2) → ⊥
 taken_slot h = let differ = h.0.2 in cc
 
 -- the last bytes of an object may be marked, those behind it may not
-sealed : StatementTyped names flow (stands (unit.SealBytes 1 4 4))
-sealed = (lit< tt, lit≤ tt)
+seal : StatementTyped names flow (stands (unit.SealBytes 1 4 4))
+seal = (lit< tt, lit≤ tt)
 
-sealed_beyond : StatementTyped names flow (stands (unit.SealBytes 1 5 4)) → ⊥
-sealed_beyond h = omega (arith, h.1)
+seal_beyond : StatementTyped names flow (stands (unit.SealBytes 1 5 4)) → ⊥
+seal_beyond h = omega (arith, h.1)
 
-returned : StatementTyped names flow (stands (unit.ReturnValue (one 0)))
-returned = (refl, small 0 (lit≤ tt))
+return_int : StatementTyped names flow (stands (unit.ReturnValue (one 0)))
+return_int = (refl, small 0 (lit≤ tt))
 
-other_kind_returned : StatementTyped names flow (stands (unit.ReturnValue (one_long 0))) → ⊥
-other_kind_returned h = let differ = h.0 in cc
+return_long : StatementTyped names flow (stands (unit.ReturnValue (one_long 0))) → ⊥
+return_long h = let differ = h.0 in cc
 
-nothing_returned : StatementTyped names flow (stands unit.Return) → ⊥
-nothing_returned h = let differ = h in cc
+return_nothing : StatementTyped names flow (stands unit.Return) → ⊥
+return_nothing h = let differ = h in cc

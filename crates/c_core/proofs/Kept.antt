@@ -26,8 +26,8 @@ module _ (old new : Types) (grown : Grows old new) where
 
   mutual
     pub node_kept : (node : n.CoreNode) → NodeIn old node → node_of new node ≡ node_of old node
-    node_kept (n.Reached' by size align _ of pos node) h =
-        λ i. tree.Reached by size align (At (type_kept of h.0 i) pos (node_kept node h.1 i))
+    node_kept (n.Reach' by size align _ of pos node) h =
+        λ i. tree.Reach by size align (At (type_kept of h.0 i) pos (node_kept node h.1 i))
     node_kept (n.Member' at _ of pos node) h = λ i. tree.Member at (At (type_kept of h.0 i) pos (node_kept node h.1 i))
     node_kept (n.Load' scalar _ of pos node) h =
         λ i. tree.Load scalar (At (type_kept of h.0 i) pos (node_kept node h.1 i))
@@ -46,8 +46,8 @@ module _ (old new : Types) (grown : Grows old new) where
     node_kept (n.Not' _ of pos node) h = λ i. tree.Not (At (type_kept of h.0 i) pos (node_kept node h.1 i))
     node_kept (n.Postfix' change _ of pos node) h =
         λ i. tree.Postfix change (At (type_kept of h.0 i) pos (node_kept node h.1 i))
-    node_kept (n.Copied' size _ of pos node) h =
-        λ i. tree.Copied size (At (type_kept of h.0 i) pos (node_kept node h.1 i))
+    node_kept (n.ValueObject' size _ of pos node) h =
+        λ i. tree.ValueObject size (At (type_kept of h.0 i) pos (node_kept node h.1 i))
     node_kept (n.Arithmetic' operator kind _ of pos node _ of2 pos2 node2) h =
         λ i. tree.Arithmetic operator kind (At (type_kept of h.0.0 i) pos (node_kept node h.0.1 i))
         (At (type_kept of2 h.1.0 i) pos2 (node_kept node2 h.1.1 i))
@@ -105,7 +105,7 @@ module _ (old new : Types) (grown : Grows old new) where
 
   mutual
     pub node_in_kept : (node : n.CoreNode) → NodeIn old node → NodeIn new node
-    node_in_kept (n.Reached' by size align _ of pos node) h = (id_in_kept of h.0, node_in_kept node h.1)
+    node_in_kept (n.Reach' by size align _ of pos node) h = (id_in_kept of h.0, node_in_kept node h.1)
     node_in_kept (n.Member' at _ of pos node) h = (id_in_kept of h.0, node_in_kept node h.1)
     node_in_kept (n.Load' scalar _ of pos node) h = (id_in_kept of h.0, node_in_kept node h.1)
     node_in_kept (n.Narrow' size _ of pos node) h = (id_in_kept of h.0, node_in_kept node h.1)
@@ -119,7 +119,7 @@ module _ (old new : Types) (grown : Grows old new) where
     node_in_kept (n.Flip' kind _ of pos node) h = (id_in_kept of h.0, node_in_kept node h.1)
     node_in_kept (n.Not' _ of pos node) h = (id_in_kept of h.0, node_in_kept node h.1)
     node_in_kept (n.Postfix' change _ of pos node) h = (id_in_kept of h.0, node_in_kept node h.1)
-    node_in_kept (n.Copied' size _ of pos node) h = (id_in_kept of h.0, node_in_kept node h.1)
+    node_in_kept (n.ValueObject' size _ of pos node) h = (id_in_kept of h.0, node_in_kept node h.1)
     node_in_kept (n.Arithmetic' operator kind _ of pos node _ of2 pos2 node2) h =
         ((id_in_kept of h.0.0, node_in_kept node h.0.1), (id_in_kept of2 h.1.0, node_in_kept node2 h.1.1))
     node_in_kept (n.Compare' comparison _ of pos node _ of2 pos2 node2) h =
@@ -169,11 +169,11 @@ module _ (old new : Types) (grown : Grows old new) where
     action_kept (a.If' test _ pos first _ pos2 second) h =
         λ i. unit.If (core_kept test h.0 i) (Stands pos (action_kept first h.1 i))
         (Stands pos2 (action_kept second h.2 i))
-    action_kept (a.While' test _ pos turn) h =
-        λ i. unit.While (core_kept test h.0 i) (Stands pos (action_kept turn h.1 i))
-    action_kept (a.Do' _ pos turn test) h = λ i. unit.Do (Stands pos (action_kept turn h.0 i)) (core_kept test h.1 i)
-    action_kept (a.For' test step _ pos turn) h =
-        λ i. unit.For (core_kept test h.0 i) (core_kept step h.1 i) (Stands pos (action_kept turn h.2 i))
+    action_kept (a.While' test _ pos body) h =
+        λ i. unit.While (core_kept test h.0 i) (Stands pos (action_kept body h.1 i))
+    action_kept (a.Do' _ pos body test) h = λ i. unit.Do (Stands pos (action_kept body h.0 i)) (core_kept test h.1 i)
+    action_kept (a.For' test step _ pos body) h =
+        λ i. unit.For (core_kept test h.0 i) (core_kept step h.1 i) (Stands pos (action_kept body h.2 i))
     action_kept (a.Switch' value locals _ items cases default) h =
         λ i. unit.Switch (core_kept value h.0 i) locals.items (items_kept items h.1 i) cases.items default
     action_kept (a.Block' locals _ items) h = λ i. unit.Block locals.items (items_kept items h i)
@@ -202,10 +202,10 @@ module _ (old new : Types) (grown : Grows old new) where
     pub action_in_kept : (action : a.CoreAction) → ActionIn old action → ActionIn new action
     action_in_kept (a.If' test _ pos first _ pos2 second) h =
         (core_in_kept test h.0, action_in_kept first h.1, action_in_kept second h.2)
-    action_in_kept (a.While' test _ pos turn) h = (core_in_kept test h.0, action_in_kept turn h.1)
-    action_in_kept (a.Do' _ pos turn test) h = (action_in_kept turn h.0, core_in_kept test h.1)
-    action_in_kept (a.For' test step _ pos turn) h =
-        (core_in_kept test h.0, core_in_kept step h.1, action_in_kept turn h.2)
+    action_in_kept (a.While' test _ pos body) h = (core_in_kept test h.0, action_in_kept body h.1)
+    action_in_kept (a.Do' _ pos body test) h = (action_in_kept body h.0, core_in_kept test h.1)
+    action_in_kept (a.For' test step _ pos body) h =
+        (core_in_kept test h.0, core_in_kept step h.1, action_in_kept body h.2)
     action_in_kept (a.Switch' value locals _ items cases default) h = (core_in_kept value h.0, items_in_kept items h.1)
     action_in_kept (a.Block' locals _ items) h = items_in_kept items h
     action_in_kept (a.Initialize slot at content value) h = core_in_kept value h

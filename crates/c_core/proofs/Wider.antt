@@ -9,7 +9,7 @@ use Rattle.c_core.specs.declared.named.FunctionName.TheVariants as function
 use Rattle.c_core.specs.Tree.{Core, At, Node, Cores, NoCore, MoreCores}
 use Rattle.c_core.specs.Tree as tree
 use Rattle.c_core.specs.declared.statement.Local.{Local}
-use Rattle.c_core.specs.Named.{Names, NamesObject, NamesFunction, Widens, number_at, opened}
+use Rattle.c_core.specs.Named.{Names, NamesObject, NamesFunction, Widens, number_at, objects_with}
 use Rattle.c_core.specs.Typed.{CoreTyped, NodeTyped, CoresTyped}
 use Rattle.c_core.specs.TreeUnit.{Statement, Stands, Action, Statements, NoStatement, MoreStatements, Definition}
 use Rattle.c_core.specs.TreeUnit as unit
@@ -36,7 +36,7 @@ module _ (old new : Names) (widens : Widens old new) where
     node_wider (tree.Function name) h = function_wider name h
     node_wider (tree.Call used gives function arguments) h =
         (h.0, core_wider function h.1, cores_wider arguments h.2, h.3, h.4, h.5)
-    node_wider (tree.Reached by size align pointer) h = (h.0, h.1, h.2, h.3, core_wider pointer h.4)
+    node_wider (tree.Reach by size align pointer) h = (h.0, h.1, h.2, h.3, core_wider pointer h.4)
     node_wider (tree.Member at place) h = (h.0, h.1, core_wider place h.2)
     node_wider (tree.Load scalar place) h = (h.0, core_wider place h.1)
     node_wider (tree.Narrow size place) h = (h.0, h.1, core_wider place h.2)
@@ -65,7 +65,7 @@ module _ (old new : Names) (widens : Widens old new) where
     node_wider (tree.AssignWhole size place value) h = (h.0, h.1, core_wider place h.2, h.3, core_wider value h.4)
     node_wider (tree.Update change place number) h = (h.0, core_wider place h.1, h.2, core_wider number h.3)
     node_wider (tree.Postfix change place) h = (h.0, h.1, core_wider place h.2)
-    node_wider (tree.Copied size value) h = (h.0, h.1, core_wider value h.2)
+    node_wider (tree.ValueObject size value) h = (h.0, h.1, core_wider value h.2)
 
     pub cores_wider : (all : Cores) → CoresTyped old all → CoresTyped new all
     cores_wider NoCore h = tt
@@ -95,7 +95,7 @@ module _ (functions statics functions2 statics2 : List Pos)
     pub action_wider : (objects : List Local) (flow : Flow) (action : Action)
         → ActionTyped (old objects) flow action → ActionTyped (new objects) flow action
     action_wider objects flow (unit.Block locals items) h =
-        (h.0, statements_wider (opened locals objects) flow items h.1)
+        (h.0, statements_wider (objects_with locals objects) flow items h.1)
     action_wider objects flow (unit.Zero slot size) h = h
     action_wider objects flow (unit.Initialize slot at content value) h = (h.0, h.1, h.2, typed objects value h.3)
     action_wider objects flow (unit.InitializeBytes slot at bytes) h = h
@@ -103,14 +103,14 @@ module _ (functions statics functions2 statics2 : List Pos)
     action_wider objects flow (unit.Evaluate core) h = (h.0, typed objects core h.1)
     action_wider objects flow (unit.If test first second) h =
         (h.0, typed objects test h.1, statement_wider objects flow first h.2, statement_wider objects flow second h.3)
-    action_wider objects flow (unit.While test turn) h =
-        (h.0, typed objects test h.1, statement_wider objects (in_loop flow) turn h.2)
-    action_wider objects flow (unit.Do turn test) h =
-        (statement_wider objects (in_loop flow) turn h.0, h.1, typed objects test h.2)
-    action_wider objects flow (unit.For test step turn) h =
-        (h.0, typed objects test h.1, h.2, typed objects step h.3, statement_wider objects (in_loop flow) turn h.4)
+    action_wider objects flow (unit.While test body) h =
+        (h.0, typed objects test h.1, statement_wider objects (in_loop flow) body h.2)
+    action_wider objects flow (unit.Do body test) h =
+        (statement_wider objects (in_loop flow) body h.0, h.1, typed objects test h.2)
+    action_wider objects flow (unit.For test step body) h =
+        (h.0, typed objects test h.1, h.2, typed objects step h.3, statement_wider objects (in_loop flow) body h.4)
     action_wider objects flow (unit.Switch value locals items cases default) h =
-        (typed objects value h.0, h.1, h.2, statements_wider (opened locals objects) (in_switch flow) items h.3)
+        (typed objects value h.0, h.1, h.2, statements_wider (objects_with locals objects) (in_switch flow) items h.3)
     action_wider objects flow unit.Break h = h
     action_wider objects flow unit.Continue h = h
     action_wider objects flow unit.Return h = h

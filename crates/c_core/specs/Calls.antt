@@ -14,7 +14,7 @@ abbrev mutual
   calls_of tree.Null = 0
   calls_of (tree.Object name) = 0
   calls_of (tree.Function name) = 0
-  calls_of (tree.Reached by size align pointer) = calls_in pointer
+  calls_of (tree.Reach by size align pointer) = calls_in pointer
   calls_of (tree.Member at place) = calls_in place
   calls_of (tree.Load scalar place) = calls_in place
   calls_of (tree.Narrow size place) = calls_in place
@@ -42,7 +42,7 @@ abbrev mutual
   calls_of (tree.Update change place number) = calls_in place + calls_in number
   calls_of (tree.Postfix change place) = calls_in place
   calls_of (tree.Call used gives function arguments) = 1 + calls_in function + calls_among arguments
-  calls_of (tree.Copied size value) = calls_in value
+  calls_of (tree.ValueObject size value) = calls_in value
 
   pub calls_among : Cores → ℕ
   calls_among NoCore = 0
@@ -60,9 +60,9 @@ abbrev mutual
   calls_in_action (unit.SealBytes slot at len) = 0
   calls_in_action (unit.Evaluate core) = calls_in core
   calls_in_action (unit.If test first second) = calls_in test + calls_in_statement first + calls_in_statement second
-  calls_in_action (unit.While test turn) = calls_in test + calls_in_statement turn
-  calls_in_action (unit.Do turn test) = calls_in_statement turn + calls_in test
-  calls_in_action (unit.For test step turn) = calls_in test + calls_in step + calls_in_statement turn
+  calls_in_action (unit.While test body) = calls_in test + calls_in_statement body
+  calls_in_action (unit.Do body test) = calls_in_statement body + calls_in test
+  calls_in_action (unit.For test step body) = calls_in test + calls_in step + calls_in_statement body
   calls_in_action (unit.Switch value locals items cases default) = calls_in value + calls_in_statements items
   calls_in_action unit.Break = 0
   calls_in_action unit.Continue = 0

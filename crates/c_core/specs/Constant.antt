@@ -8,11 +8,10 @@ use Rattle.c_core.specs.declared.fault.ConstFault.{ConstFault}
 use Rattle.c_core.specs.declared.fault.ConstFault.TheVariants.{NotConstant, Value}
 use Rattle.c_core.specs.Tree.{Core, At, Node}
 use Rattle.c_core.specs.Tree as tree
-use Rattle.c_core.specs.Operations.{operated, negated, flipped, compares, truth, is_shift}
+use Rattle.c_core.specs.Operations.{operator_outcome, negation, complement, compares, truth, is_shift}
 
 -- An integer constant expression is made of numbers by conversions to integers, `+ - ~ !`, the operators on two
--- numbers,
--- `&&`, `||` and the conditional, whose operands are such expressions, evaluated or not (6.6p3, p6).
+-- numbers, `&&`, `||` and the conditional, whose operands are such expressions, evaluated or not (6.6p3, p6).
 abbrev mutual
   pub is_constant : Core → Bool
   is_constant (At of place node) = is_constant_node node
@@ -39,37 +38,35 @@ and_then (Err fault) go = Err fault
 abbrev pub truth_of : Result ℤ NumFault → Result ℤ NumFault
 truth_of outcome = and_then outcome (λ a. Ok (truth (not (is_zero a))))
 
--- The outcome of an operator on two numbers, each taken in the kind of the operation, but for the count of a shift.
--- In a
--- well-typed tree they are of that kind (6.3.1.8, 6.5.7p3).
-abbrev pub operated_in : Operator → IntKind → ℤ → ℤ → Result ℤ NumFault
-operated_in operator kind a b =
-    operated operator kind (converted_to kind a) (if is_shift operator then b else converted_to kind b)
+-- The outcome of an operator on two numbers, each taken in the kind of the operation, but for the count of a shift. In
+-- a well-typed tree they are of that kind (6.3.1.8, 6.5.7p3).
+abbrev pub outcome_in : Operator → IntKind → ℤ → ℤ → Result ℤ NumFault
+outcome_in operator kind a b =
+    operator_outcome operator kind (converted_to kind a) (if is_shift operator then b else converted_to kind b)
 
 -- The value, or why an operation in an evaluated part has none. The right part of `&&` and `||` that the left decides
--- is
--- not evaluated (6.5.13p4, 6.5.14p4), nor is the part of a conditional that is not chosen (6.5.15p4).
+-- is not evaluated (6.5.13p4, 6.5.14p4), nor is the part of a conditional that is not chosen (6.5.15p4).
 abbrev mutual
-  pub evaluated : Core → Result ℤ NumFault
-  evaluated (At of place node) = node_evaluated node
+  pub constant_value : Core → Result ℤ NumFault
+  constant_value (At of place node) = node_value node
 
-  pub node_evaluated : Node → Result ℤ NumFault
-  node_evaluated (tree.Number kind value) = Ok value
-  node_evaluated (tree.Convert kind value) = and_then (evaluated value) (λ a. Ok (converted_to kind a))
-  node_evaluated (tree.Negate kind value) = and_then (evaluated value) (λ a. negated kind (converted_to kind a))
-  node_evaluated (tree.Flip kind value) = and_then (evaluated value) (λ a. Ok (flipped kind a))
-  node_evaluated (tree.Not value) = and_then (evaluated value) (λ a. Ok (truth (is_zero a)))
-  node_evaluated (tree.Arithmetic operator kind left right) =
-      and_then (evaluated left) (λ a. and_then (evaluated right) (λ b. operated_in operator kind a b))
-  node_evaluated (tree.Compare comparison left right) =
-      and_then (evaluated left) (λ a. and_then (evaluated right) (λ b. Ok (truth (compares comparison a b))))
-  node_evaluated (tree.AndAlso left right) =
-      and_then (evaluated left) (λ a. if is_zero a then Ok (pos 0) else truth_of (evaluated right))
-  node_evaluated (tree.OrElse left right) =
-      and_then (evaluated left) (λ a. if is_zero a then truth_of (evaluated right) else Ok (pos 1))
-  node_evaluated (tree.Cond test first second) =
-      and_then (evaluated test) (λ a. if is_zero a then evaluated second else evaluated first)
-  node_evaluated other = Ok (pos 0)
+  pub node_value : Node → Result ℤ NumFault
+  node_value (tree.Number kind value) = Ok value
+  node_value (tree.Convert kind value) = and_then (constant_value value) (λ a. Ok (converted_to kind a))
+  node_value (tree.Negate kind value) = and_then (constant_value value) (λ a. negation kind (converted_to kind a))
+  node_value (tree.Flip kind value) = and_then (constant_value value) (λ a. Ok (complement kind a))
+  node_value (tree.Not value) = and_then (constant_value value) (λ a. Ok (truth (is_zero a)))
+  node_value (tree.Arithmetic operator kind left right) =
+      and_then (constant_value left) (λ a. and_then (constant_value right) (λ b. outcome_in operator kind a b))
+  node_value (tree.Compare comparison left right) =
+      and_then (constant_value left) (λ a. and_then (constant_value right) (λ b. Ok (truth (compares comparison a b))))
+  node_value (tree.AndAlso left right) =
+      and_then (constant_value left) (λ a. if is_zero a then Ok (pos 0) else truth_of (constant_value right))
+  node_value (tree.OrElse left right) =
+      and_then (constant_value left) (λ a. if is_zero a then truth_of (constant_value right) else Ok (pos 1))
+  node_value (tree.Cond test first second) =
+      and_then (constant_value test) (λ a. if is_zero a then constant_value second else constant_value first)
+  node_value other = Ok (pos 0)
 
 abbrev pub or_undefined : Result ℤ NumFault → Result ℤ ConstFault
 or_undefined (Ok value) = Ok value
@@ -77,4 +74,4 @@ or_undefined (Err fault) = Err Value
 
 -- what `constant` answers
 abbrev pub constant_of : Core → Result ℤ ConstFault
-constant_of core = if is_constant core then or_undefined (evaluated core) else Err NotConstant
+constant_of core = if is_constant core then or_undefined (constant_value core) else Err NotConstant

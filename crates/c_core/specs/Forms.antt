@@ -41,7 +41,7 @@ abbrev mutual
   node_form tree.Null = form.Pointer
   node_form (tree.Object name) = form.Place
   node_form (tree.Function name) = form.Pointer
-  node_form (tree.Reached by size align pointer) = form.Place
+  node_form (tree.Reach by size align pointer) = form.Place
   node_form (tree.Member at place) = form.Place
   node_form (tree.Load scalar place) = scalar_form scalar
   node_form (tree.Narrow size place) = form.Pointer
@@ -69,4 +69,4 @@ abbrev mutual
   node_form (tree.Update change place number) = changed_form change
   node_form (tree.Postfix change place) = changed_form change
   node_form (tree.Call used gives function arguments) = given_form gives
-  node_form (tree.Copied size value) = form.Place
+  node_form (tree.ValueObject size value) = form.Place

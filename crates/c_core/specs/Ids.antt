@@ -13,7 +13,7 @@ IdIn types id = id.0 < count_of types
 
 abbrev mutual
   pub NodeIn : Types → n.CoreNode → Type 0
-  NodeIn types (n.Reached' by size align _ of pos node) = IdIn types of × NodeIn types node
+  NodeIn types (n.Reach' by size align _ of pos node) = IdIn types of × NodeIn types node
   NodeIn types (n.Member' at _ of pos node) = IdIn types of × NodeIn types node
   NodeIn types (n.Load' scalar _ of pos node) = IdIn types of × NodeIn types node
   NodeIn types (n.Narrow' size _ of pos node) = IdIn types of × NodeIn types node
@@ -55,7 +55,7 @@ abbrev mutual
   NodeIn types (n.Postfix' change _ of pos node) = IdIn types of × NodeIn types node
   NodeIn types (n.Call' used gives _ of pos node _ arguments) = (IdIn types of × NodeIn types node)
       × RowIn types arguments
-  NodeIn types (n.Copied' size _ of pos node) = IdIn types of × NodeIn types node
+  NodeIn types (n.ValueObject' size _ of pos node) = IdIn types of × NodeIn types node
   NodeIn types n.Null = Unit {0}
   NodeIn types (n.Number kind value) = Unit {0}
   NodeIn types (n.Object name) = Unit {0}
@@ -82,9 +82,9 @@ abbrev mutual
   ActionIn types (a.Evaluate core) = CoreIn types core
   ActionIn types (a.If' test _ pos first _ pos2 second) = CoreIn types test × ActionIn types first
       × ActionIn types second
-  ActionIn types (a.While' test _ pos turn) = CoreIn types test × ActionIn types turn
-  ActionIn types (a.Do' _ pos turn test) = ActionIn types turn × CoreIn types test
-  ActionIn types (a.For' test step _ pos turn) = CoreIn types test × CoreIn types step × ActionIn types turn
+  ActionIn types (a.While' test _ pos body) = CoreIn types test × ActionIn types body
+  ActionIn types (a.Do' _ pos body test) = ActionIn types body × CoreIn types test
+  ActionIn types (a.For' test step _ pos body) = CoreIn types test × CoreIn types step × ActionIn types body
   ActionIn types (a.Switch' value locals _ items cases default) = CoreIn types value × ItemsIn types items
   ActionIn types a.Break = Unit {0}
   ActionIn types a.Continue = Unit {0}

@@ -39,17 +39,16 @@ size_in slot [] = None
 size_in slot (local ∷ rest) = if local.slot == slot then Some local.size else size_in slot rest
 
 -- the objects that are made, after these
-abbrev pub opened : List Local → List Local → List Local
-opened [] objects = objects
-opened (local ∷ rest) objects = opened rest (local ∷ objects)
+abbrev pub objects_with : List Local → List Local → List Local
+objects_with [] objects = objects
+objects_with (local ∷ rest) objects = objects_with rest (local ∷ objects)
 
 -- so many bytes from a byte on lie in the object of a slot, which is made
 abbrev pub LieIn : List Local → ℕ → ℕ → ℕ → Type 0
 LieIn objects slot at len = IsSomeAnd (size_in slot objects) (λ size. at + len ≤ size)
 
 -- What an expression may name: the tokens of the unit's functions and static objects, and the objects that are made
--- where
--- it stands.
+-- where it stands.
 pub record Names : Type 0 where
   pub functions : List Pos
   pub statics : List Pos
@@ -63,8 +62,8 @@ abbrev pub NamesFunction : List Pos → FunctionName → Type 0
 NamesFunction functions (function.Unit token) = IsSome (number_at token functions)
 NamesFunction functions (function.Library number) = number < LIBRARY_FUNCTIONS
 
-abbrev pub with_objects : List Local → Names → Names
-with_objects locals names = record names { objects = opened locals names.objects }
+abbrev pub names_in_block : List Local → Names → Names
+names_in_block locals names = record names { objects = objects_with locals names.objects }
 
 -- What could be named still can.
 pub record Widens (old new : Names) : Type 0 where

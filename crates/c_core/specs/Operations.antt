@@ -22,25 +22,25 @@ of_bits kind bits = converted_to kind (pos bits)
 
 -- The outcome of an operator on two numbers of a kind; a shift's count may have any kind. The bitwise operators work on
 -- each bit and always have a value (6.5.10p4, 6.5.11p4, 6.5.12p4).
-unfoldable pub operated : Operator → IntKind → ℤ → ℤ → Result ℤ NumFault
-operated o.Add kind a b = outcome_of kind Add a b
-operated o.Subtract kind a b = outcome_of kind Sub a b
-operated o.Multiply kind a b = outcome_of kind Mul a b
-operated o.Divide kind a b = outcome_of kind Div a b
-operated o.Remainder kind a b = outcome_of kind Rem a b
-operated o.ShiftLeft kind a b = outcome_of kind Shl a b
-operated o.ShiftRight kind a b = outcome_of kind Shr a b
-operated o.BitAnd kind a b = Ok (of_bits kind (bit_and (bits_in kind a) (bits_in kind b)))
-operated o.BitOr kind a b = Ok (of_bits kind (bit_or (bits_in kind a) (bits_in kind b)))
-operated o.BitXor kind a b = Ok (of_bits kind (bit_xor (bits_in kind a) (bits_in kind b)))
+unfoldable pub operator_outcome : Operator → IntKind → ℤ → ℤ → Result ℤ NumFault
+operator_outcome o.Add kind a b = outcome_of kind Add a b
+operator_outcome o.Subtract kind a b = outcome_of kind Sub a b
+operator_outcome o.Multiply kind a b = outcome_of kind Mul a b
+operator_outcome o.Divide kind a b = outcome_of kind Div a b
+operator_outcome o.Remainder kind a b = outcome_of kind Rem a b
+operator_outcome o.ShiftLeft kind a b = outcome_of kind Shl a b
+operator_outcome o.ShiftRight kind a b = outcome_of kind Shr a b
+operator_outcome o.BitAnd kind a b = Ok (of_bits kind (bit_and (bits_in kind a) (bits_in kind b)))
+operator_outcome o.BitOr kind a b = Ok (of_bits kind (bit_or (bits_in kind a) (bits_in kind b)))
+operator_outcome o.BitXor kind a b = Ok (of_bits kind (bit_xor (bits_in kind a) (bits_in kind b)))
 
 -- `-a` is 0 less a (6.5.3.3p3)
-unfoldable pub negated : IntKind → ℤ → Result ℤ NumFault
-negated kind a = outcome_of kind Sub (pos 0) a
+unfoldable pub negation : IntKind → ℤ → Result ℤ NumFault
+negation kind a = outcome_of kind Sub (pos 0) a
 
 -- `~a` has each bit that a has not (6.5.3.3p4); -1 has all bits
-unfoldable pub flipped : IntKind → ℤ → ℤ
-flipped kind a = of_bits kind (bit_xor (bits_in kind a) (bits_in kind (neg_ℤ (pos 1))))
+unfoldable pub complement : IntKind → ℤ → ℤ
+complement kind a = of_bits kind (bit_xor (bits_in kind a) (bits_in kind (neg_ℤ (pos 1))))
 
 -- whether two integers compare so (6.5.8p6, 6.5.9p3)
 abbrev pub compares : Comparison → ℤ → ℤ → Bool

@@ -24,7 +24,7 @@ mutual
     Null : Node
     Object : (name : ObjectName) → Node
     Function : (name : FunctionName) → Node
-    Reached : (by : By) (size align : ℕ) (pointer : Core) → Node
+    Reach : (by : By) (size align : ℕ) (pointer : Core) → Node
     Member : (at : ℕ) (place : Core) → Node
     Load : (scalar : Scalar) (place : Core) → Node
     Narrow : (size : ℕ) (place : Core) → Node
@@ -53,7 +53,7 @@ mutual
     Update : (change : Change) (place number : Core) → Node
     Postfix : (change : Change) (place : Core) → Node
     Call : (used : Bool) (gives : Option Content) (function : Core) (arguments : Cores) → Node
-    Copied : (size : ℕ) (value : Core) → Node
+    ValueObject : (size : ℕ) (value : Core) → Node
 
   pub data Cores : Type 0 where
     NoCore : Cores

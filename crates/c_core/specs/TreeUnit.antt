@@ -27,9 +27,9 @@ mutual
     SealBytes : (slot at len : ℕ) → Action
     Evaluate : (core : Core) → Action
     If : (test : Core) (first second : Statement) → Action
-    While : (test : Core) (turn : Statement) → Action
-    Do : (turn : Statement) (test : Core) → Action
-    For : (test step : Core) (turn : Statement) → Action
+    While : (test : Core) (body : Statement) → Action
+    Do : (body : Statement) (test : Core) → Action
+    For : (test step : Core) (body : Statement) → Action
     Switch : (value : Core) (locals : List Local) (items : Statements) (cases : List Case) (default : Option ℕ) → Action
     Break : Action
     Continue : Action

@@ -70,7 +70,7 @@ abbrev mutual
   NodeTyped names tree.Null = Unit {0}
   NodeTyped names (tree.Object name) = NamesObject names name
   NodeTyped names (tree.Function name) = NamesFunction names.functions name
-  NodeTyped names (tree.Reached by size align pointer) =
+  NodeTyped names (tree.Reach by size align pointer) =
       IsSize size × (0 < align) × (align ≤ 8) × (form_of pointer ≡ form.Pointer) × CoreTyped names pointer
   NodeTyped names (tree.Member at place) = (at < largest) × (form_of place ≡ form.Place) × CoreTyped names place
   NodeTyped names (tree.Load scalar place) = (form_of place ≡ form.Place) × CoreTyped names place
@@ -120,7 +120,7 @@ abbrev mutual
   NodeTyped names (tree.Call used gives function arguments) =
       (form_of function ≡ form.Pointer) × CoreTyped names function × CoresTyped names arguments
       × IsCalled (type_in function) gives arguments × IsGiven gives × MayBeUsed used gives
-  NodeTyped names (tree.Copied size value) = IsSize size × (form_of value ≡ form.Place) × CoreTyped names value
+  NodeTyped names (tree.ValueObject size value) = IsSize size × (form_of value ≡ form.Place) × CoreTyped names value
 
   pub CoresTyped : Names → Cores → Type 0
   CoresTyped names NoCore = Unit {0}

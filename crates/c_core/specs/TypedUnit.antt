@@ -2,13 +2,13 @@
 use Rattle.std.specs.Prelude.{◌≡◌, ℕ, suc, ◌+◌, ◌<◌, ◌≤◌, Bool, true, false, List, [], ◌∷◌, length, map, Option, Some}
 use Rattle.std.specs.Prelude.{None, IsSomeAnd, IfSome, if◌then◌else◌}
 use Rattle.std.specs.Str.{bytes_eq}
+use Rattle.acc_num.specs.Kinds.{bytes_of}
 use Rattle.acc_num.specs.Numbers.{InRange}
 use Rattle.acc_num.specs.declared.kind.IntKind.{IntKind}
 use Rattle.acc_num.specs.declared.kind.IntKind.TheVariants.{I32}
 use Rattle.critical_table.specs.declared.pos.Pos.{Pos}
 use Rattle.c_types.specs.CType.{CType, CTypes, Plain, Nil, Cons}
 use Rattle.c_types.specs.CType as type
-use Rattle.c_types.specs.Layouts.{bytes_of}
 use Rattle.c_core.specs.declared.form.Form.{Form}
 use Rattle.c_core.specs.declared.form.Form.TheVariants as form
 use Rattle.c_core.specs.declared.form.Scalar.TheVariants as scalar
@@ -25,7 +25,7 @@ use Rattle.c_core.specs.TreeUnit.{StaticBytes, StaticItem, Static, Program}
 use Rattle.c_core.specs.TreeUnit as unit
 use Rattle.c_core.specs.Forms.{scalar_form, content_form, given_form, form_of}
 use Rattle.c_core.specs.Types.{value_form, IsNumber, IsSize, IsGiven, content_size}
-use Rattle.c_core.specs.Named.{Names, NamesFunction, AreDistinct, AreRising, same_place, size_in, LieIn, with_objects}
+use Rattle.c_core.specs.Named.{Names, NamesFunction, AreDistinct, AreRising, same_place, size_in, LieIn, names_in_block}
 use Rattle.c_core.specs.Typed.{CoreTyped}
 use Rattle.c_core.specs.Calls.{calls_in_functions}
 
@@ -83,7 +83,7 @@ abbrev mutual
 
   pub ActionTyped : Names → Flow → Action → Type 0
   ActionTyped names flow (unit.Block locals items) =
-      AreFresh flow.slots locals names.objects × StatementsTyped (with_objects locals names) flow items
+      AreFresh flow.slots locals names.objects × StatementsTyped (names_in_block locals names) flow items
   ActionTyped names flow (unit.Zero slot size) = size_in slot names.objects ≡ Some size
   ActionTyped names flow (unit.Initialize slot at content value) =
       IsSize (content_size content) × LieIn names.objects slot at (content_size content)
@@ -95,16 +95,16 @@ abbrev mutual
   ActionTyped names flow (unit.If test first second) =
       IsNumber (form_of test) × CoreTyped names test × StatementTyped names flow first
       × StatementTyped names flow second
-  ActionTyped names flow (unit.While test turn) =
-      IsNumber (form_of test) × CoreTyped names test × StatementTyped names (in_loop flow) turn
-  ActionTyped names flow (unit.Do turn test) =
-      StatementTyped names (in_loop flow) turn × IsNumber (form_of test) × CoreTyped names test
-  ActionTyped names flow (unit.For test step turn) =
+  ActionTyped names flow (unit.While test body) =
+      IsNumber (form_of test) × CoreTyped names test × StatementTyped names (in_loop flow) body
+  ActionTyped names flow (unit.Do body test) =
+      StatementTyped names (in_loop flow) body × IsNumber (form_of test) × CoreTyped names test
+  ActionTyped names flow (unit.For test step body) =
       IsNumber (form_of test) × CoreTyped names test × (form_of step ≡ form.Nothing) × CoreTyped names step
-      × StatementTyped names (in_loop flow) turn
+      × StatementTyped names (in_loop flow) body
   ActionTyped names flow (unit.Switch value locals items cases default) =
       CoreTyped names value × AreLabels (form_of value) items cases default × AreFresh flow.slots locals names.objects
-      × StatementsTyped (with_objects locals names) (in_switch flow) items
+      × StatementsTyped (names_in_block locals names) (in_switch flow) items
   ActionTyped names flow unit.Break = flow.breaks ≡ true
   ActionTyped names flow unit.Continue = flow.continues ≡ true
   ActionTyped names flow unit.Return = flow.gives ≡ None

@@ -1,10 +1,11 @@
 -- What a type says of the values that have it.
 use Rattle.std.specs.Prelude.{◌≡◌, ℕ, ◌<◌, ◌≤◌, Option, Some, None}
+use Rattle.acc_num.specs.Kinds.{bytes_of}
 use Rattle.acc_num.specs.declared.kind.IntKind.{IntKind}
 use Rattle.acc_num.specs.declared.kind.IntKind.TheVariants.{I32}
 use Rattle.c_types.specs.CType.{CType, Plain, Array, BasicType, Pointer, Function, Compound, Enumerated}
 use Rattle.c_types.specs.declared.basic.Basic.TheVariants.{Void}
-use Rattle.c_types.specs.Layouts.{kind_of, bytes_of, largest}
+use Rattle.c_types.specs.Layouts.{kind_of, largest}
 use Rattle.c_core.specs.declared.form.Form.{Form}
 use Rattle.c_core.specs.declared.form.Form.TheVariants as form
 use Rattle.c_core.specs.declared.form.Scalar.{Scalar}

@@ -12,8 +12,8 @@ abbrev mutual
   node_of types n.Null = tree.Null
   node_of types (n.Object name) = tree.Object name
   node_of types (n.Function name) = tree.Function name
-  node_of types (n.Reached' by size align _ of pos node) =
-      tree.Reached by size align (At (type_of types of) pos (node_of types node))
+  node_of types (n.Reach' by size align _ of pos node) =
+      tree.Reach by size align (At (type_of types of) pos (node_of types node))
   node_of types (n.Member' at _ of pos node) = tree.Member at (At (type_of types of) pos (node_of types node))
   node_of types (n.Load' scalar _ of pos node) = tree.Load scalar (At (type_of types of) pos (node_of types node))
   node_of types (n.Narrow' size _ of pos node) = tree.Narrow size (At (type_of types of) pos (node_of types node))
@@ -65,7 +65,7 @@ abbrev mutual
   node_of types (n.Postfix' change _ of pos node) = tree.Postfix change (At (type_of types of) pos (node_of types node))
   node_of types (n.Call' used gives _ of pos node _ arguments) =
       tree.Call used gives (At (type_of types of) pos (node_of types node)) (cores_row types arguments)
-  node_of types (n.Copied' size _ of pos node) = tree.Copied size (At (type_of types of) pos (node_of types node))
+  node_of types (n.ValueObject' size _ of pos node) = tree.ValueObject size (At (type_of types of) pos (node_of types node))
 
   pub cores_row : {count : _} → Types → n.Row_of-CoreExpr count → Cores
   cores_row types n.end_of-CoreExpr = NoCore

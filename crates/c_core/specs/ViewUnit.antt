@@ -26,10 +26,10 @@ abbrev mutual
   action_of types (n.Evaluate core) = tree.Evaluate (core_of types core)
   action_of types (n.If' test _ pos first _ pos2 second) =
       tree.If (core_of types test) (Stands pos (action_of types first)) (Stands pos2 (action_of types second))
-  action_of types (n.While' test _ pos turn) = tree.While (core_of types test) (Stands pos (action_of types turn))
-  action_of types (n.Do' _ pos turn test) = tree.Do (Stands pos (action_of types turn)) (core_of types test)
-  action_of types (n.For' test step _ pos turn) =
-      tree.For (core_of types test) (core_of types step) (Stands pos (action_of types turn))
+  action_of types (n.While' test _ pos body) = tree.While (core_of types test) (Stands pos (action_of types body))
+  action_of types (n.Do' _ pos body test) = tree.Do (Stands pos (action_of types body)) (core_of types test)
+  action_of types (n.For' test step _ pos body) =
+      tree.For (core_of types test) (core_of types step) (Stands pos (action_of types body))
   action_of types (n.Switch' value locals _ items cases default) =
       tree.Switch (core_of types value) locals.items (statements_row types items) cases.items default
   action_of types n.Break = tree.Break

@@ -1,7 +1,7 @@
 //! Integer constant expressions (6.6).
 ghost use Rattle.std.specs.Prelude.{◌≡◌};
 ghost use Rattle.c_core.specs.View.{core_of};
-ghost use Rattle.c_core.specs.Constant.{is_constant, operated_in, evaluated, constant_of};
+ghost use Rattle.c_core.specs.Constant.{is_constant, outcome_in, constant_value, constant_of};
 
 use crate::expression::{CoreExpr, CoreNode};
 use crate::fault::ConstFault;
@@ -33,7 +33,7 @@ fn is_constant(types: &TypeTable, expr: &CoreExpr) -> bool
 
 // The outcome of an operator on two numbers, each taken in the kind of the operation, but for the count of a shift.
 fn operate_in(operator: Operator, kind: IntKind, a: i128, b: i128) -> Result<i128, NumFault>
-    ensures { result ≡ operated_in operator kind a b }
+    ensures { result ≡ outcome_in operator kind a b }
 {
     let left = convert(kind, a);
     if is_shift(operator) {
@@ -44,7 +44,7 @@ fn operate_in(operator: Operator, kind: IntKind, a: i128, b: i128) -> Result<i12
 
 // The value of a constant expression, or why an operation in an evaluated part has none.
 fn value(types: &TypeTable, expr: &CoreExpr) -> Result<i128, NumFault>
-    ensures { result ≡ evaluated (core_of types.now expr.now) }
+    ensures { result ≡ constant_value (core_of types.now expr.now) }
 {
     match &expr.node {
         CoreNode::Number(_, value) => Ok(*value),

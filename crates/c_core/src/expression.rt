@@ -31,7 +31,7 @@ pub enum CoreNode {
     Function(FunctionName),
     /// The place that a pointer designates, once that many bytes with that alignment are reached: `*E`, `E[F]`, and `E->m`
     /// before its member is taken (6.5.3.2p4, 6.5.2.1, 6.5.2.3p4).
-    Reached(By, u32, u32, Box<CoreExpr>),
+    Reach(By, u32, u32, Box<CoreExpr>),
     /// The place of a member that begins at that byte of a structure (6.5.2.3p3).
     Member(u32, Box<CoreExpr>),
     /// The value that a scalar object holds (6.3.2.1p2).
@@ -87,5 +87,5 @@ pub enum CoreNode {
     /// What a function gives; the flag tells that the value is used (6.5.2.2, 6.9.1p12).
     Call(bool, Option<Content>, Box<CoreExpr>, Vec<CoreExpr>),
     /// The place of a value object that a structure of that many bytes is copied to: an argument (6.5.2.2p4).
-    Copied(u32, Box<CoreExpr>),
+    ValueObject(u32, Box<CoreExpr>),
 }

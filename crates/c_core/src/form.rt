@@ -60,7 +60,7 @@ impl Change {
 }
 
 // What a call leaves that gives this.
-fn given(gives: Option<Content>) -> Form
+fn call_form(gives: Option<Content>) -> Form
     ensures { result ≡ given_form gives }
 {
     match gives {
@@ -88,10 +88,10 @@ impl CoreExpr {
             | CoreNode::Retype(_)
             | CoreNode::Step(_, _, _, _) => Form::Pointer,
             CoreNode::Object(_)
-            | CoreNode::Reached(_, _, _, _)
+            | CoreNode::Reach(_, _, _, _)
             | CoreNode::Member(_, _)
             | CoreNode::AssignWhole(_, _, _)
-            | CoreNode::Copied(_, _) => Form::Place,
+            | CoreNode::ValueObject(_, _) => Form::Place,
             CoreNode::NotNull(_)
             | CoreNode::IsNull(_)
             | CoreNode::Not(_)
@@ -106,7 +106,7 @@ impl CoreExpr {
             CoreNode::Cond(_, first, _) => first.form(),
             CoreNode::Comma(_, right) => right.form(),
             CoreNode::Update(change, _, _) | CoreNode::Postfix(change, _) => change.form(),
-            CoreNode::Call(_, gives, _, _) => given(*gives),
+            CoreNode::Call(_, gives, _, _) => call_form(*gives),
         }
     }
 }

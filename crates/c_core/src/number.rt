@@ -1,7 +1,7 @@
 //! What the operators make of numbers (6.5.3.3, 6.5.5 to 6.5.12).
 ghost use Rattle.std.specs.Prelude.{◌≡◌, false, IfOk};
 ghost use Rattle.acc_num.specs.Numbers.{InRange};
-ghost use Rattle.c_core.specs.Operations.{operated, negated, flipped, compares, truth, is_shift, bits_in};
+ghost use Rattle.c_core.specs.Operations.{operator_outcome, negation, complement, compares, truth, is_shift, bits_in};
 
 use crate::operator::{Comparison, Operator};
 use acc_num::kind::width;
@@ -24,11 +24,11 @@ fn bits(kind: IntKind, value: i128) -> u64
 /// The outcome of an operator on two numbers of a kind; the count of a shift may have any kind.
 ///
 /// The fault is that of `acc_num`; `BitAnd`, `BitOr` and `BitXor` always have a value.
-#[tactic(auto, unfolding(crate::specs::Operations::operated))]
+#[tactic(auto, unfolding(crate::specs::Operations::operator_outcome))]
 pub fn operate(operator: Operator, kind: IntKind, a: i128, b: i128) -> Result<i128, NumFault>
     requires left { InRange kind a }
     requires right { is_shift operator ≡ false → InRange kind b }
-    ensures value { result ≡ operated operator kind a b }
+    ensures value { result ≡ operator_outcome operator kind a b }
     ensures in_range { IfOk result (λ value. InRange kind value) }
 {
     match operator {
@@ -46,19 +46,19 @@ pub fn operate(operator: Operator, kind: IntKind, a: i128, b: i128) -> Result<i1
 }
 
 /// `-a` in that kind. `Overflow` comes exactly at the least value of a signed kind.
-#[tactic(auto, unfolding(crate::specs::Operations::negated))]
+#[tactic(auto, unfolding(crate::specs::Operations::negation))]
 pub fn negate(kind: IntKind, a: i128) -> Result<i128, NumFault>
     requires { InRange kind a }
-    ensures value { result ≡ negated kind a }
+    ensures value { result ≡ negation kind a }
     ensures in_range { IfOk result (λ value. InRange kind value) }
 {
     acc_num::sub(kind, 0, a)
 }
 
 /// `~a` in that kind.
-#[tactic(auto, unfolding(crate::specs::Operations::flipped))]
+#[tactic(auto, unfolding(crate::specs::Operations::complement))]
 pub fn flip(kind: IntKind, a: i128) -> i128
-    ensures value { result ≡ flipped kind a }
+    ensures value { result ≡ complement kind a }
     ensures in_range { InRange kind result }
 {
     convert(kind, i128::from(bits(kind, a) ^ bits(kind, -1)))

@@ -47,7 +47,7 @@ pub enum CoreAction {
     While(CoreExpr, Box<CoreStatement>),
     /// 6.8.5.2
     Do(Box<CoreStatement>, CoreExpr),
-    /// The condition, the step and the turns of a `for` (6.8.5.3).
+    /// A `for` behind its first part: the condition, the step and the body (6.8.5.3).
     For(CoreExpr, CoreExpr, Box<CoreStatement>),
     /// A block that is entered at the first label with the value, or else at the default, or not at all (6.8.4.2).
     Switch(CoreExpr, Vec<Local>, Vec<CoreStatement>, Vec<Case>, Option<u32>),

@@ -144,12 +144,12 @@ fn expr(node: CoreNode) -> CoreExpr {
     }
 }
 
-fn boxed(alloc: Global, node: CoreNode) -> Result<Box<CoreExpr>, Fail> {
+fn in_box(alloc: Global, node: CoreNode) -> Result<Box<CoreExpr>, Fail> {
     Ok(Box::new(alloc, expr(node))?)
 }
 
 fn object(alloc: Global) -> Result<Box<CoreExpr>, Fail> {
-    boxed(alloc, CoreNode::Object(ObjectName::Slot(0)))
+    in_box(alloc, CoreNode::Object(ObjectName::Slot(0)))
 }
 
 // What is no constant by itself: an object, a call, a test of a pointer.
@@ -158,11 +158,11 @@ fn leaf(alloc: Global, name: &str) -> Result<CoreNode, Fail> {
     match name {
         "object" => Ok(CoreNode::Load(int, object(alloc)?)),
         "call" => {
-            let function = boxed(alloc, CoreNode::Function(FunctionName::Library(0)))?;
+            let function = in_box(alloc, CoreNode::Function(FunctionName::Library(0)))?;
             let gives = Some(Content::Scalar(int));
             Ok(CoreNode::Call(true, gives, function, Vec::new(alloc)))
         }
-        _ => Ok(CoreNode::IsNull(boxed(alloc, CoreNode::AddressOf(object(alloc)?))?)),
+        _ => Ok(CoreNode::IsNull(in_box(alloc, CoreNode::AddressOf(object(alloc)?))?)),
     }
 }
 
@@ -221,7 +221,7 @@ fn binary(
     match name {
         "andalso" => Ok(CoreNode::AndAlso(left, right)),
         "orelse" => Ok(CoreNode::OrElse(left, right)),
-        "comma" => Ok(CoreNode::Comma(boxed(alloc, CoreNode::Discard(left))?, right)),
+        "comma" => Ok(CoreNode::Comma(in_box(alloc, CoreNode::Discard(left))?, right)),
         _ => match operator_of(name) {
             Some(operator) => Ok(CoreNode::Arithmetic(operator, kind, left, right)),
             None => Ok(CoreNode::Compare(comparison_of(name), left, right)),
@@ -229,7 +229,7 @@ fn binary(
     }
 }
 
-fn taken(alloc: Global, operands: &mut Vec<CoreExpr>) -> Result<Box<CoreExpr>, Fail> {
+fn take_operand(alloc: Global, operands: &mut Vec<CoreExpr>) -> Result<Box<CoreExpr>, Fail> {
     Ok(Box::new(alloc, operands.pop().ok_or("no operand")?)?)
 }
 
@@ -245,17 +245,17 @@ fn node_of(alloc: Global, word: &str, operands: &mut Vec<CoreExpr>) -> Result<Co
     match name {
         "object" | "call" | "pointer" => leaf(alloc, name),
         "conv" | "neg" | "flip" | "not" | "assign" => {
-            let operand = taken(alloc, operands)?;
+            let operand = take_operand(alloc, operands)?;
             unary(alloc, name, kind, operand)
         }
         "cond" => {
-            let second = taken(alloc, operands)?;
-            let first = taken(alloc, operands)?;
-            Ok(CoreNode::Cond(taken(alloc, operands)?, first, second))
+            let second = take_operand(alloc, operands)?;
+            let first = take_operand(alloc, operands)?;
+            Ok(CoreNode::Cond(take_operand(alloc, operands)?, first, second))
         }
         _ => {
-            let right = taken(alloc, operands)?;
-            let left = taken(alloc, operands)?;
+            let right = take_operand(alloc, operands)?;
+            let left = take_operand(alloc, operands)?;
             binary(alloc, name, kind, left, right)
         }
     }
