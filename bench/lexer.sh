@@ -1,6 +1,6 @@
 #!/usr/bin/env bash
 # How fast the proved lexer reads: bytes per second of units of 1, 2 and 4 MiB, and whether twice the bytes take twice
-# the time. It builds a small program over c_lexer in a folder of its own.
+# the time. It builds a small program over c_lexer by program.sh.
 set -eu
 work=$(mktemp -d)
 trap 'rm -rf "$work"' EXIT
@@ -28,7 +28,7 @@ fn main(rt: HostRuntime) -> ExitCode {
 }
 PROGRAM
 bench=$(dirname "$(readlink -f "$0")")
-program=$(sed "s/TURNS/$turns/" "$work/main.rt" | "$bench/program.sh" "$work/repository" c_lexer)
+program=$(sed "s/TURNS/$turns/" "$work/main.rt" | "$bench/program.sh" bench_lexer c_lexer)
 
 # a function with names, numbers, marks, a literal, a character and comments, again and again
 part='/* adds */ static int add_one(const char *s, long n) { int v = 0x1Fu + 42; if (*s == '"'\\n'"') v <<= 2; // twice

@@ -1,13 +1,13 @@
 #!/usr/bin/env bash
 # How fast the proved lexer and parser read: tokens per second, whether twice the tokens take twice the time, and the
 # greatest memory for each token. One unit repeats a function, another declares as many names as it can. It builds a
-# small program over c_parser in a folder of its own.
+# small program over c_parser by program.sh.
 set -eu
 work=$(mktemp -d)
 trap 'rm -rf "$work"' EXIT
 
 bench=$(dirname "$(readlink -f "$0")")
-program=$("$bench/program.sh" "$work/repository" c_lexer c_parser <<'PROGRAM'
+program=$("$bench/program.sh" bench_parser c_lexer c_parser <<'PROGRAM'
 //! Parses what stands on its input, and writes how many tokens it has.
 #![tactic(auto)]
 

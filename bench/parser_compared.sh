@@ -3,14 +3,13 @@
 # syntax in both, and in each that it refuses one of them has to find an error of some kind. It prints how many units
 # were compared, of how many refused units one of them complains of the refused token, and each unit for which that
 # doesn't hold, with the name of the difference where it is one of those known below. It ends with status 1 where there
-# is any other. Two arguments: a seed, and how many units. It builds a small program over c_parser in a folder of its
-# own.
+# is any other. Two arguments: a seed, and how many units. It builds a small program over c_parser by program.sh.
 set -eu
 bench=$(dirname "$(readlink -f "$0")")
 work=$(mktemp -d)
 trap 'rm -rf "$work"' EXIT
 
-program=$("$bench/program.sh" "$work/repository" c_lexer c_parser <<'PROGRAM'
+program=$("$bench/program.sh" parser_compared c_lexer c_parser <<'PROGRAM'
 //! Writes for each unit on its input, ended by a null byte, whether it has a tree, or the column where it is refused.
 #![tactic(auto)]
 
