@@ -65,7 +65,8 @@ abbrev mutual
   node_of types (n.Postfix' change _ of pos node) = tree.Postfix change (At (type_of types of) pos (node_of types node))
   node_of types (n.Call' used gives _ of pos node _ arguments) =
       tree.Call used gives (At (type_of types of) pos (node_of types node)) (cores_row types arguments)
-  node_of types (n.ValueObject' size _ of pos node) = tree.ValueObject size (At (type_of types of) pos (node_of types node))
+  node_of types (n.ValueObject' size _ of pos node) =
+      tree.ValueObject size (At (type_of types of) pos (node_of types node))
 
   pub cores_row : {count : _} → Types → n.Row_of-CoreExpr count → Cores
   cores_row types n.end_of-CoreExpr = NoCore

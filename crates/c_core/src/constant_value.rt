@@ -84,8 +84,8 @@ fn value(types: &TypeTable, expr: &CoreExpr) -> Result<i128, NumFault>
 
 /// The value of an integer constant expression (6.6).
 ///
-/// `NotConstant` comes exactly where the expression is none, and else `Value` exactly where an operation in an evaluated
-/// part of it is undefined.
+/// `NotConstant` comes exactly where the expression is none, and else `Value` exactly where an operation in an
+/// evaluated part of it is undefined.
 pub fn constant(types: &TypeTable, expr: &CoreExpr) -> Result<i128, ConstFault>
     ensures { result ≡ constant_of (core_of types.now expr.now) }
 {

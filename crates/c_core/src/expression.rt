@@ -29,8 +29,8 @@ pub enum CoreNode {
     Object(ObjectName),
     /// A pointer to a function (6.3.2.1p4).
     Function(FunctionName),
-    /// The place that a pointer designates, once that many bytes with that alignment are reached: `*E`, `E[F]`, and `E->m`
-    /// before its member is taken (6.5.3.2p4, 6.5.2.1, 6.5.2.3p4).
+    /// The place that a pointer designates, once that many bytes with that alignment are reached: `*E`, `E[F]`, and
+    /// `E->m` before its member is taken (6.5.3.2p4, 6.5.2.1, 6.5.2.3p4).
     Reach(By, u32, u32, Box<CoreExpr>),
     /// The place of a member that begins at that byte of a structure (6.5.2.3p3).
     Member(u32, Box<CoreExpr>),
@@ -44,7 +44,8 @@ pub enum CoreNode {
     Convert(IntKind, Box<CoreExpr>),
     /// A pointer as one to another type (6.3.2.3p1, p2, p7, p8).
     Retype(Box<CoreExpr>),
-    /// An `int` that is 1 where a pointer is not null: a pointer as a truth value (6.3.1.2, 6.5.13 to 6.5.15, 6.8.4.1, 6.8.5).
+    /// An `int` that is 1 where a pointer is not null: a pointer as a truth value (6.3.1.2, 6.5.13 to 6.5.15, 6.8.4.1,
+    /// 6.8.5).
     NotNull(Box<CoreExpr>),
     /// An `int` that is 1 where a pointer is null: `!p` (6.5.3.3p5).
     IsNull(Box<CoreExpr>),

@@ -54,8 +54,7 @@ pub struct Stride {
 /// How a compound assignment or a step changes an object (6.5.2.4, 6.5.3.1, 6.5.16.2).
 #[derive(Clone, Copy, Debug, PartialEq, Eq)]
 pub enum Change {
-    /// The number that the object holds in the first kind is converted to the second, operator_outcome on there, and converted
-    /// back.
+    /// The number that the object holds, in the first kind, is converted to the second, changed there, and converted back.
     Number(Operator, IntKind, IntKind),
     /// The pointer that it holds moves.
     Pointer(Stride),

@@ -7,7 +7,8 @@ use std::alloc::Global;
 use std::test::Fail;
 
 // What gcc 12.2 and clang 14.0 on x86-64 make of an expression in postfix order (oracles/constants.py): its value,
-// `undefined` where an operation in an evaluated part is undefined, or `none` where it is no integer constant expression.
+// `undefined` where an operation in an evaluated part is undefined, or `none` where it is no integer constant
+// expression.
 static CONSTANTS: [&str; 109] = [
     "2147483647 I32:2147483647",
     "18446744073709551615 U64:18446744073709551615",
