@@ -1,0 +1,14 @@
+pub mod Tree
+pub mod TreeUnit
+pub mod View
+pub mod ViewUnit
+pub mod Ids
+pub mod Forms
+pub mod Operations
+pub mod Constant
+pub mod Types
+pub mod Named
+pub mod Typed
+pub mod Calls
+pub mod TypedUnit
+pub mod Inner
