@@ -1,0 +1,26 @@
+-- The definitions that the contracts of this crate cite.
+pub mod Arguments
+pub mod Names
+pub mod RowNumbers
+pub mod Units
+pub mod Spans
+pub mod Text
+pub mod Violations
+pub mod Reply
+pub mod Handlers
+pub mod Constraints
+pub mod Rules
+pub mod Columns
+pub mod MemoryRows
+pub mod TextRows
+pub mod TokenRows
+pub mod OtherRows
+pub mod RowTable
+pub mod Shown
+pub mod Prototypes
+pub mod World
+pub mod Library
+pub mod Laws
+pub mod Answers
+pub mod RuleLaws
+pub mod Sample

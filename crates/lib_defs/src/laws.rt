@@ -1,0 +1,43 @@
+//! What holds of the rows of Annex K and of libraries.
+ghost use Rattle.std.specs.Prelude.{◌≡◌, Some, IsSome};
+ghost use Rattle.std.specs.Option.{option_map};
+ghost use Rattle.lib_defs.specs.RowNumbers.{name_at, row_named};
+ghost use Rattle.lib_defs.specs.Names.{name_text};
+ghost use Rattle.lib_defs.specs.RowTable.{rule_of};
+ghost use Rattle.lib_defs.specs.Rules.{run_rule};
+ghost use Rattle.lib_defs.specs.Violations.{StandsThere};
+ghost use Rattle.lib_defs.specs.Library.{values_of};
+ghost use Rattle.lib_defs.specs.Laws.{IsSized, CallFits, KeepsLaws};
+ghost use Rattle.lib_defs.specs.RuleLaws.{RuleKeeps};
+ghost use Rattle.lib_defs.specs.Sample.{sample};
+
+/// The row that a name finds has that name, and each name finds one.
+pub fn names_law()
+    ensures found { (text : _) (row : _) → row_named text ≡ Some row → option_map name_text (name_at row) ≡ Some text }
+    ensures all { (name : _) → IsSome (row_named (name_text name)) }
+{}
+
+/// Each row of Annex K keeps the laws at all arguments and in all stores: a constraint that it tells is the first that
+/// may fail by what the arguments decide, its action is reached, its stores are to reached ranges, and a trap is that
+/// of a reach.
+pub fn rules_law()
+    ensures { (name : _) (values : _) (rule : _) → rule_of name values ≡ Some rule → RuleKeeps rule }
+{}
+
+/// So each answers its call as every library does, by the facts at the values that the line of the call shows.
+pub fn rows_law()
+    ensures { (row : _) (args : _) (name : _) (rule : _) → name_at row ≡ Some name
+        → rule_of name (values_of args) ≡ Some rule → (w : _) → IsSized w.store → (waits : _) (streams : _)
+        → CallFits waits row args w streams (run_rule rule w.store) }
+{}
+
+/// Rows can keep the laws: there is a library of all rows of Annex K, of handlers, objects and streams, and of a row
+/// that wants a guest's function, that keeps them.
+pub fn sample_law()
+    ensures { KeepsLaws sample }
+{}
+
+/// The message of each class stands in the message object of each store.
+pub fn message_law()
+    ensures { (class : _) → StandsThere class }
+{}
