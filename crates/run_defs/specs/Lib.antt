@@ -2,3 +2,4 @@
 pub mod Outcomes
 pub mod State
 pub mod Evaluation
+pub mod Loads
