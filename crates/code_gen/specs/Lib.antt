@@ -1,0 +1,17 @@
+-- The definitions, in the order in which they are read.
+pub mod Scope
+pub mod Pointers
+pub mod Accesses
+pub mod Operators
+pub mod Designation
+pub mod LibraryTypes
+pub mod ArgumentKinds
+pub mod Evaluating
+pub mod Expressions
+pub mod Flows
+pub mod Blocks
+pub mod Statements
+pub mod ProgramFunctions
+pub mod Calls
+pub mod StaticContents
+pub mod Meaning

@@ -1,0 +1,2 @@
+//! The meaning of a unit.
+#![tactic(auto)]
