@@ -1,3 +1,5 @@
 pub mod Trees
 pub mod Runs
 mod FirstRuns
+mod PointerRuns
+mod NumberRuns

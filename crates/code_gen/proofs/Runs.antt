@@ -1,14 +1,38 @@
--- What is said of a run in the examples.
+-- What is said of the runs of examples.
 use Rattle.std.specs.Prelude.{ℕ, ◌++◌, List, [], ◌∷◌}
-use Rattle.object_store.specs.declared.class.Class.TheVariants.{Static}
-use Rattle.object_store.specs.declared.mark.Mark.TheVariants.{Literal}
+use Rattle.acc_num.specs.Numbers.{value_of}
+use Rattle.acc_num.specs.Operations.{power_of_two, converted_to}
+use Rattle.critical_table.specs.declared.case.Case.{Case}
+use Rattle.critical_table.specs.declared.code.Code.{Code}
+use Rattle.object_store.specs.declared.by.By.{By}
+use Rattle.object_store.specs.declared.class.Class.TheVariants.{Static, Automatic, Allocated}
+use Rattle.object_store.specs.declared.mark.Mark.{Mark}
+use Rattle.object_store.specs.declared.mark.Mark.TheVariants.{Literal, Const}
+use Rattle.object_store.specs.declared.pointer.Pointer.{Pointer}
+use Rattle.object_store.specs.Storage.{live_bytes}
+use Rattle.object_store.specs.Messages.{message_bytes}
+use Rattle.object_store.specs.Reach.{reach_table}
+use Rattle.object_store.specs.Load.{integer_bytes, pointer_bytes, load_integer, load_pointer}
+use Rattle.c_types.specs.Compatible.{agree, bare_agree, all_agree}
+use Rattle.c_core.specs.Operations.{operator_outcome, negation, complement}
+use Rattle.lib_defs.specs.declared.row.Row.{Row}
+use Rattle.lib_defs.specs.declared.shown.Shown.{Shown}
+use Rattle.lib_defs.specs.Spans.{span}
 use Rattle.lib_defs.specs.World.{Input, AtEnd}
 use Rattle.lib_defs.specs.Sample.{sample}
 use Rattle.run_defs.specs.declared.event.Event.{Event}
-use Rattle.run_defs.specs.declared.event.Event.TheVariants.{Made, Sealed, Ended}
+use Rattle.run_defs.specs.declared.event.Event.TheVariants.{Made, Sealed, Stored, Died, Called, Returned, ReachFailed}
+use Rattle.run_defs.specs.declared.event.Event.TheVariants.{Stopped, Ended}
 use Rattle.run_defs.specs.declared.outcome.Outcome.{Outcome}
 use Rattle.c_core.specs.TreeUnit.{Program}
 use Rattle.code_gen.specs.Meaning.{Meaning, meaning}
+use Rattle.code_gen.proofs.Trees.{at}
+
+-- what a run computes with
+unfoldable pub words : Unit {0}
+unfolding message_bytes live_bytes reach_table integer_bytes pointer_bytes load_integer load_pointer operator_outcome
+  negation complement value_of power_of_two converted_to agree bare_agree all_agree span
+words = tt
 
 abbrev pub no_input : Input
 no_input = record { bytes = []; ending = AtEnd }
@@ -25,9 +49,41 @@ journal_of events outcome =
 -- how a run ends, its output, the events between, and the ticks that it takes; nothing on the error output
 abbrev pub says : Outcome → List ℕ → List Event → ℕ → Meaning
 says outcome output events ticks = record {
-  outcome = outcome;
-  output = output;
-  err = [];
-  journal = journal_of events outcome;
-  ticks = ticks;
+  outcome = outcome; output = output; err = []; journal = journal_of events outcome; ticks = ticks;
 }
+
+-- ---- events
+
+abbrev pub made : (object size : ℕ) → Event
+made object size = Made object size Automatic
+
+abbrev pub static : (object size : ℕ) → Event
+static object size = Made object size Static
+
+abbrev pub heap : (object size : ℕ) → Event
+heap object size = Made object size Allocated
+
+abbrev pub stored : (object at len : ℕ) → Event
+stored object at len = Stored (record { object = object; at = at; len = len })
+
+abbrev pub literal_marks : (object len : ℕ) → Event
+literal_marks object len = Sealed object (record { at = 0; len = len; mark = Literal })
+
+abbrev pub const_marks : (object at len : ℕ) → Event
+const_marks object at len = Sealed object (record { at = at; len = len; mark = Const })
+
+abbrev pub called : (row : ℕ) → List Shown → Event
+called row values = Called (record { 0 = row }) values
+
+abbrev pub gave : (row : ℕ) → Shown → Event
+gave row value = Returned (record { 0 = row }) value
+
+abbrev pub unreached : Case → (column : ℕ) → Pointer → (len align : ℕ) → By → Event
+unreached case column place len align by =
+    ReachFailed case (at column) (record { place = place; len = len; align = align; by = by })
+
+abbrev pub undefined : Code → (column : ℕ) → Event
+undefined code column = Stopped code (at column)
+
+abbrev pub pointer : (object offset low high : ℕ) → Pointer
+pointer object offset low high = record { object = object; offset = offset; low = low; high = high }

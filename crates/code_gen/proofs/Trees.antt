@@ -15,6 +15,7 @@ use Rattle.c_core.specs.declared.form.Content.TheVariants as content
 use Rattle.c_core.specs.declared.named.ObjectName.TheVariants as object
 use Rattle.c_core.specs.declared.named.FunctionName.TheVariants as name
 use Rattle.c_core.specs.declared.operator.By.TheVariants as by
+use Rattle.c_core.specs.declared.operator.Change.TheVariants as change
 use Rattle.c_core.specs.declared.operator.Operator.{Operator}
 use Rattle.c_core.specs.declared.operator.Operator.TheVariants as o
 use Rattle.c_core.specs.declared.operator.Comparison.{Comparison}
@@ -27,7 +28,7 @@ use Rattle.c_core.specs.TreeUnit.{Statement, Stands, Action, Statements, NoState
 use Rattle.c_core.specs.TreeUnit.{Parameter, Definition, StaticBytes, Static, Program}
 use Rattle.c_core.specs.TreeUnit as unit
 use Rattle.c_core.specs.Types.{kind_in}
-use Rattle.code_gen.specs.LibraryTypes.{int, to, function}
+pub use Rattle.code_gen.specs.LibraryTypes.{char, int, size_t, to, function}
 
 abbrev pub at : ℕ → Pos
 at column = record { line = 1; column = column }
@@ -147,9 +148,30 @@ index column p n = deref column (step column p n)
 abbrev pub member : ℕ → CType → (byte : ℕ) → Core → Core
 member column type byte place = At type (at column) (tree.Member byte place)
 
-abbrev pub arrow : ℕ → CType → (byte : ℕ) → Core → Core
-arrow column type byte p = At type (at column) (tree.Member byte (At (target (type_in p)) (at column)
-    (tree.Reach by.Arrow (size_of (target (type_in p))) (align_of (target (type_in p))) p)))
+-- of a structure of a size, aligned to 4
+abbrev pub arrow : ℕ → (size : ℕ) → CType → (byte : ℕ) → Core → Core
+arrow column size type byte p = At type (at column)
+    (tree.Member byte (At (target (type_in p)) (at column) (tree.Reach by.Arrow size 4 p)))
+
+-- `++v`, `v += n` and the like, where the operator works in `int`
+abbrev pub update : Operator → ℕ → Core → Core → Core
+update operator column place number = At (type_in place) (at column)
+    (tree.Update (change.Number operator (kind_of (type_in place)) (kind_of (type_in number))) place number)
+
+-- `v++`, `v--`
+abbrev pub postfix : Operator → ℕ → Core → Core
+postfix operator column place = At (type_in place) (at column)
+    (tree.Postfix (change.Number operator (kind_of (type_in place)) k.I32) place)
+
+-- `p++`, `p--`
+abbrev pub pointer_postfix : (back : Bool) → ℕ → Core → Core
+pointer_postfix back column place = At (type_in place) (at column)
+    (tree.Postfix (change.Pointer (record { size = size_of (target (type_in place)); back = back })) place)
+
+-- `p += n`
+abbrev pub pointer_update : (back : Bool) → ℕ → Core → Core → Core
+pointer_update back column place number = At (type_in place) (at column)
+    (tree.Update (change.Pointer (record { size = size_of (target (type_in place)); back = back })) place number)
 
 abbrev pub discard : Core → Core
 discard value = At type.void (pos_in value) (tree.Discard value)
@@ -244,9 +266,12 @@ definition token name type parameters gives body = record {
 abbrev pub gives_int : Option Content
 gives_int = Some (content.Scalar (scalar.Number k.I32))
 
--- int main(void){..}, its name at column 5
+-- int main(void){..}, its name at a column
+abbrev pub main_at : ℕ → List Local → List Statement → Definition
+main_at token locals items = definition token (codes "main") (function int []) [] gives_int (block locals items)
+
 abbrev pub main : List Local → List Statement → Definition
-main locals items = definition 5 (codes "main") (function int []) [] gives_int (block locals items)
+main locals items = main_at 5 locals items
 
 -- a string literal, at a column
 abbrev pub literal : ℕ → List ℕ → ℕ → Static
