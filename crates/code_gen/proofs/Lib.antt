@@ -3,3 +3,5 @@ pub mod Runs
 mod FirstRuns
 mod PointerRuns
 mod NumberRuns
+mod StatementRuns
+mod ObjectRuns

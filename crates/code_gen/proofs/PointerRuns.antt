@@ -21,8 +21,8 @@ use Rattle.code_gen.proofs.Runs.{stored, undefined, unreached, words}
 use Rattle.code_gen.proofs.Trees.{add, address, arrow, at, block, call, call_void, char, constant, convert, decay}
 use Rattle.code_gen.proofs.Trees.{deref, does, eval, eval_void, get, global, index, init, init_at, int, literal}
 use Rattle.code_gen.proofs.Trees.{local, long, main, main_at, member, minus_one, null_of, num, pair, pointer_postfix}
-use Rattle.code_gen.proofs.Trees.{pointer_update, return, retype, row_function, set, size_t, slot, step, to, unit_of}
-use Rattle.code_gen.proofs.Trees.{unsigned_char}
+use Rattle.code_gen.proofs.Trees.{pointer_update, return, retype, row_function, set, size_t, slot, step, to, two}
+use Rattle.code_gen.proofs.Trees.{unit_of, unsigned_char}
 use Rattle.code_gen.specs.LibraryTypes.{row_type}
 
 -- int main(void){int a[3];a[3]=1;return 0;}
@@ -168,9 +168,6 @@ unfolding words
 forged_traps = refl
 
 -- ---- order, equality and difference: int main(void){int a[2];int b[2];return E;}
-
-abbrev two : CType
-two = Array int (Some 2)
 
 abbrev a_and_b : Core → Program
 a_and_b value = unit_of (main (slot two 0 ∷ slot two 1 ∷ []) (return value ∷ []) ∷ []) []

@@ -51,6 +51,9 @@ bool = Plain (BasicType basic.Bool) no_quals
 abbrev pub pair : CType
 pair = Plain (Compound 0) no_quals
 
+abbrev pub two : CType
+two = Array int (Some 2)
+
 abbrev pub kind_of : CType → IntKind
 kind_of type = unwrap_or (kind_in type) k.I32
 
