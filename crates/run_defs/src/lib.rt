@@ -1,0 +1,19 @@
+//! What a run is made of: its outcomes, its events with their lines, and where they are handed to.
+//!
+//! The definitions of this crate are those that the meaning of a unit and the machine both cite: the state of a run
+//! with each change and its line, the library call, and the law of a journal.
+#![tactic(auto)]
+
+pub mod attempt;
+pub mod event;
+pub mod outcome;
+pub mod seal;
+pub mod suspended;
+pub mod values;
+
+pub use attempt::Attempt;
+pub use event::Event;
+pub use outcome::Outcome;
+pub use seal::Seal;
+pub use suspended::{Suspended, Waits};
+pub use values::Values;
