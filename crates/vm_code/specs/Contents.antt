@@ -8,9 +8,9 @@ use Rattle.critical_table.specs.declared.pos.Pos.{Pos}
 use Rattle.c_core.specs.declared.form.Form.{Form}
 use Rattle.c_core.specs.declared.form.Form.TheVariants as form
 use Rattle.object_store.specs.Storage.{largest_size}
+use Rattle.run_defs.specs.declared.seal.Seal.{Seal}
 use Rattle.vm_code.specs.declared.instr.Instr.{Instr}
 use Rattle.vm_code.specs.declared.parts.Parameter.{Parameter}
-use Rattle.vm_code.specs.declared.parts.Seal.{Seal}
 use Rattle.vm_code.specs.declared.parts.CodeFunction.{CodeFunction}
 use Rattle.vm_code.specs.declared.parts.CodeObject.{CodeObject}
 use Rattle.vm_code.specs.declared.parts.CodeCalled.{CodeCalled}

@@ -4,11 +4,12 @@ ghost use Rattle.vm_code.specs.Contents.{no_code, with_instr, function_room, typ
 ghost use Rattle.vm_code.specs.Contents.{ObjectFits};
 
 use crate::instr::Instr;
-use crate::parts::{CodeCalled, CodeFunction, CodeObject, Parameter, Seal};
+use crate::parts::{CodeCalled, CodeFunction, CodeObject, Parameter};
 use crate::sequence::Sequence;
 use c_core::Form;
 use critical_table::{Name, Pos};
 use lib_defs::ArgKind;
+use run_defs::Seal;
 use std::alloc::{AllocError, Global};
 use std::marker::Model;
 

@@ -13,7 +13,8 @@ pub mod sequence;
 pub use c_core::Form;
 pub use code::Code;
 pub use instr::Instr;
-pub use parts::{CodeCalled, CodeFunction, CodeObject, Parameter, Seal};
+pub use parts::{CodeCalled, CodeFunction, CodeObject, Parameter};
+pub use run_defs::Seal;
 pub use sequence::Sequence;
 
 #[cfg(test)]

@@ -3,7 +3,7 @@ use crate::sequence::Sequence;
 use c_core::Form;
 use critical_table::Name;
 use lib_defs::ArgKind;
-use object_store::Mark;
+use run_defs::Seal;
 
 /// A parameter of a function: the size of its object, and what is passed for it. A structure is passed by its place.
 #[derive(Clone, Copy, Debug, PartialEq, Eq)]
@@ -12,14 +12,6 @@ pub struct Parameter {
     pub size: u32,
     /// A number, a pointer or a place.
     pub form: Form,
-}
-
-/// So many bytes of a static object, from a byte on, with their mark.
-#[derive(Clone, Copy, Debug, PartialEq, Eq)]
-pub struct Seal {
-    pub at: u32,
-    pub len: u32,
-    pub mark: Mark,
 }
 
 /// A function of the unit.
