@@ -26,7 +26,7 @@ pub use reading::Reading;
 pub use row::{Row, name_of, row_of};
 pub use row_name::RowName;
 pub use rows::Rows;
-pub use shown::{FunctionName, NAME_ROOM, Shown};
+pub use shown::{NAME_ROOM, Shown, ShownName};
 pub use step::{LibStep, Rest};
 pub use unit::{Byte, Unit, Wide};
 pub use value::{Arg, ArgKind, Value};

@@ -6,14 +6,14 @@ use std::marker::Model;
 /// The most bytes of a function's name that a journal shows.
 pub const NAME_ROOM: usize = 64;
 
-/// A function's name, cut to its first 64 bytes. Contracts see the list of its bytes.
+/// A function's name as a line shows it: cut to its first 64 bytes. Contracts see the list of them.
 #[derive(Drop)]
-pub struct FunctionName {
+pub struct ShownName {
     buffer: [u8; NAME_ROOM],
     used: usize,
 }
 
-impl Model for FunctionName {
+impl Model for ShownName {
     ghost use Rattle.std.specs.Prelude.{ℕ, ◌≤◌, List, take};
 
     ghost Value = { List ℕ };
@@ -23,16 +23,16 @@ impl Model for FunctionName {
     ghost invariant = { λ name. name.used ≤ 64 };
 }
 
-impl FunctionName {
+impl ShownName {
     /// The first 64 bytes of the name.
-    pub fn cut(name: &[u8]) -> FunctionName
+    pub fn cut(name: &[u8]) -> ShownName
         ensures { result ≡ take 64 name.now }
     {
         let shown = front(name);
         let used = shown.len();
         let mut buffer = [0; NAME_ROOM];
         buffer[..used].copy_from_slice(shown);
-        FunctionName { buffer, used }
+        ShownName { buffer, used }
     }
 
     /// The bytes, at most 64.
@@ -61,7 +61,7 @@ pub enum Shown {
     /// A number.
     Number(i128),
     /// A pointer to a function, by the function's name.
-    Function(FunctionName),
+    Function(ShownName),
     /// Any other pointer, by its object and its offset.
     Place { object: u32, offset: u32 },
     /// No value.

@@ -1,11 +1,10 @@
 -- Evaluations: what comes of a part of a unit, and how a run stops there.
-use Rattle.std.specs.Prelude.{ℕ, zero, suc, Bool, true, false, List, length, Option, Some, None}
+use Rattle.std.specs.Prelude.{ℕ, zero, suc, Bool, true, false, length, Option, Some, None}
 use Rattle.critical_table.specs.declared.case.Case.{Case}
 use Rattle.critical_table.specs.declared.code.Code.{Code}
 use Rattle.critical_table.specs.declared.pos.Pos.{Pos}
 use Rattle.object_store.specs.declared.by.By.TheVariants.{Store}
-use Rattle.object_store.specs.declared.class.Class.{Class}
-use Rattle.object_store.specs.declared.class.Class.TheVariants.{Static, Automatic}
+use Rattle.object_store.specs.declared.class.Class.TheVariants.{Automatic}
 use Rattle.object_store.specs.declared.pointer.Pointer.{Pointer}
 use Rattle.object_store.specs.Storage.{fits}
 use Rattle.object_store.specs.Steps.{next_number, with_call}
@@ -13,10 +12,10 @@ use Rattle.object_store.specs.Reach.{reach}
 use Rattle.lib_defs.specs.declared.shown.Shown.{Shown}
 use Rattle.lib_defs.specs.Reply.{Patch}
 use Rattle.run_defs.specs.declared.attempt.Attempt.{Attempt}
-use Rattle.run_defs.specs.declared.event.Event.TheVariants.{ReachFailed, ValueFailed, ArgumentFailed, Stopped, Ended}
+use Rattle.run_defs.specs.declared.event.Event.TheVariants.{ReachFailed, ValueFailed, Stopped, Ended}
 use Rattle.run_defs.specs.declared.outcome.Outcome.{Outcome}
 use Rattle.run_defs.specs.declared.outcome.Outcome.TheVariants.{Trapped, Undefined, OutOfTicks, OutOfBytes}
-use Rattle.run_defs.specs.State.{State, logged, with_storage, made, static_made, patched}
+use Rattle.run_defs.specs.State.{State, logged, with_storage, made, patched}
 
 -- a value and the state after it; or the run stops, in this state
 pub data Evaluation (A : Type 0) : Type 0 where

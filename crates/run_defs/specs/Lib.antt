@@ -2,3 +2,8 @@
 pub mod Outcomes
 pub mod State
 pub mod Evaluation
+pub mod Loads
+pub mod Functions
+pub mod Served
+pub mod Calls
+pub mod Starts

@@ -1,5 +1,5 @@
 -- The state of a run. Each change that a journal shows is one function with its line.
-use Rattle.std.specs.Prelude.{ℕ, ◌+◌, nat_le, Bool, true, false, ◌&&◌, List, [], ◌∷◌, ◌++◌, length, map, Option, Some, None}
+use Rattle.std.specs.Prelude.{ℕ, ◌+◌, nat_le, Bool, true, false, ◌&&◌, List, [], ◌∷◌, ◌++◌, length, map, Option, Some}
 use Rattle.std.specs.Prelude.{if◌then◌else◌}
 use Rattle.std.specs.Option.{option_map_or}
 use Rattle.object_store.specs.declared.class.Class.{Class}
@@ -7,7 +7,7 @@ use Rattle.object_store.specs.declared.class.Class.TheVariants.{Static}
 use Rattle.object_store.specs.declared.pointer.Pointer.{Pointer}
 use Rattle.object_store.specs.Object.{Object, object_of}
 use Rattle.object_store.specs.Storage.{Storage, is_live}
-use Rattle.object_store.specs.Steps.{stored_cell, next_number, with_new, with_dead, with_mark, with_bytes, with_call}
+use Rattle.object_store.specs.Steps.{stored_cell, next_number, with_new, with_dead, with_mark, with_bytes}
 use Rattle.object_store.specs.Steps.{without_call}
 use Rattle.lib_defs.specs.Reply.{Patch}
 use Rattle.lib_defs.specs.World.{Streams, World}

@@ -6,14 +6,15 @@
 
 pub mod attempt;
 pub mod event;
+pub mod library_call;
 pub mod outcome;
 pub mod seal;
-pub mod suspended;
+
 pub mod values;
 
 pub use attempt::Attempt;
 pub use event::Event;
 pub use outcome::Outcome;
 pub use seal::Seal;
-pub use suspended::{Suspended, Waits};
+pub use library_call::{LibraryCall, Suspended, Waits};
 pub use values::Values;

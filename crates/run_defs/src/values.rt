@@ -28,7 +28,12 @@ impl Values {
         ensures { result ≡ [] }
     {
         Values {
-            list: [Shown::NoValue, Shown::NoValue, Shown::NoValue, Shown::NoValue],
+            list: [
+                Shown::NoValue,
+                Shown::NoValue,
+                Shown::NoValue,
+                Shown::NoValue,
+            ],
             count: 0,
         }
     }
