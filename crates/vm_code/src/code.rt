@@ -88,13 +88,15 @@ impl Code {
         requires free { IsFreeStart self.old.functions start }
         requires fits { FunctionFits parameters.now form room }
         ensures number { IfOk result (λ number. number ≡ length self.old.functions + 1) }
-        ensures ok { OnOk result (self.new ≡ record self.old { functions = self.old.functions ++ record {
-          name = name.now;
-          start = start;
-          parameters = parameters.now;
-          form = form;
-          room = room;
-        } ∷ [] }) }
+        ensures ok { OnOk result (self.new ≡ record self.old {
+          functions = self.old.functions ++ record {
+            name = name.now;
+            start = start;
+            parameters = parameters.now;
+            form = form;
+            room = room;
+          } ∷ [];
+        }) }
         ensures err { OnErr result (self.new ≡ self.old) }
     {
         let name = Name::new(self.alloc, name)?;
@@ -149,12 +151,14 @@ impl Code {
     ) -> Result<u32, AllocError>
         requires few { length self.old.types < type_room }
         ensures index { IfOk result (λ index. index ≡ length self.old.types) }
-        ensures ok { OnOk result (self.new ≡ record self.old { types = self.old.types ++ record {
-          functions = functions.now;
-          arguments = arguments.now;
-          kinds = kinds.now;
-          form = form;
-        } ∷ [] }) }
+        ensures ok { OnOk result (self.new ≡ record self.old {
+          types = self.old.types ++ record {
+            functions = functions.now;
+            arguments = arguments.now;
+            kinds = kinds.now;
+            form = form;
+          } ∷ [];
+        }) }
         ensures err { OnErr result (self.new ≡ self.old) }
     {
         let functions = Sequence::new(Vec::from_slice(self.alloc, functions)?);
