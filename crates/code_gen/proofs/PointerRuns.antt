@@ -23,7 +23,7 @@ use Rattle.code_gen.proofs.Trees.{deref, does, eval, eval_void, get, global, ind
 use Rattle.code_gen.proofs.Trees.{local, long, main, main_at, member, minus_one, null_of, num, pair, pointer_postfix}
 use Rattle.code_gen.proofs.Trees.{pointer_update, return, retype, row_function, set, size_t, slot, step, to, two}
 use Rattle.code_gen.proofs.Trees.{unit_of, unsigned_char}
-use Rattle.code_gen.specs.LibraryTypes.{row_type}
+use Rattle.library_types.specs.LibraryTypes.{row_type}
 
 -- int main(void){int a[3];a[3]=1;return 0;}
 abbrev three : CType

@@ -28,7 +28,7 @@ use Rattle.c_core.specs.TreeUnit.{Statement, Stands, Action, Statements, NoState
 use Rattle.c_core.specs.TreeUnit.{Parameter, Definition, StaticBytes, Static, Program}
 use Rattle.c_core.specs.TreeUnit as unit
 use Rattle.c_core.specs.Types.{kind_in}
-pub use Rattle.code_gen.specs.LibraryTypes.{char, int, size_t, to, function}
+pub use Rattle.library_types.specs.LibraryTypes.{char, int, size_t, to, function}
 
 abbrev pub at : ℕ → Pos
 at column = record { line = 1; column = column }

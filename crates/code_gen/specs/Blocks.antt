@@ -11,8 +11,8 @@ use Rattle.c_core.specs.declared.function.Range.{Range}
 use Rattle.c_core.specs.declared.statement.Local.{Local}
 use Rattle.c_core.specs.TreeUnit.{Parameter}
 use Rattle.c_core.specs.Types.{content_size}
-use Rattle.code_gen.specs.Scope.{Held, numbers, all_died}
-use Rattle.code_gen.specs.Accesses.{content_stored}
+use Rattle.vm_code.specs.Slots.{Held, numbers, all_died}
+use Rattle.vm_code.specs.Accesses.{content_stored}
 
 -- the object in a slot
 abbrev pub held_at : ℕ → Pointer → ℕ → Held

@@ -19,8 +19,8 @@ use Rattle.run_defs.specs.Calls.{library_call}
 use Rattle.run_defs.specs.Calls as entering
 use Rattle.c_core.specs.TreeUnit.{Definition, Program}
 use Rattle.c_core.specs.TypedUnit.{main_name}
-use Rattle.code_gen.specs.Scope.{numbers, all_died}
-use Rattle.code_gen.specs.Operators.{told}
+use Rattle.vm_code.specs.Slots.{numbers, all_died}
+use Rattle.vm_code.specs.Operators.{told}
 use Rattle.code_gen.specs.ProgramFunctions.{Named, UnitFunction, LibraryFunction, function_numbered, designated_by}
 use Rattle.code_gen.specs.ProgramFunctions.{type_of_function, environment}
 use Rattle.code_gen.specs.Expressions.{Call}

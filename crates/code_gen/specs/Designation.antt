@@ -1,6 +1,7 @@
 -- What names stand for: static objects and functions have numbers, by which pointers designate them.
 use Rattle.std.specs.Prelude.{ℕ, ◌+◌, List, [], ◌∷◌, length}
 use Rattle.std.specs.Prelude.{if◌then◌else◌}
+use Rattle.std.specs.Option.{option_map_or}
 use Rattle.critical_table.specs.declared.pos.Pos.{Pos}
 use Rattle.object_store.specs.declared.class.Class.TheVariants.{Static as StaticClass}
 use Rattle.object_store.specs.declared.pointer.Pointer.{Pointer}
@@ -14,7 +15,11 @@ use Rattle.c_core.specs.declared.named.FunctionName.{FunctionName}
 use Rattle.c_core.specs.declared.named.FunctionName.TheVariants as name
 use Rattle.c_core.specs.TreeUnit.{Definition, Static}
 use Rattle.c_core.specs.Named.{same_place}
-use Rattle.code_gen.specs.Scope.{Held, place_in}
+use Rattle.vm_code.specs.Slots.{Held, place_of, held_in}
+
+-- the place of the object in a slot; a well-typed tree names slots that hold one
+abbrev pub place_in : ℕ → List Held → Pointer
+place_in slot held = option_map_or place_of (held_in slot held) null
 
 -- The place of the static object with this token, where the next one is the k-th object that is made.
 abbrev pub static_from : ℕ → Pos → List Static → Pointer

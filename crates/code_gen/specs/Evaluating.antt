@@ -3,8 +3,8 @@ use Rattle.std.specs.Prelude.{ℕ, Bool, true, false, List, []}
 use Rattle.lib_defs.specs.declared.value.Value.{Value}
 use Rattle.run_defs.specs.State.{State}
 use Rattle.run_defs.specs.Evaluation.{Evaluation, Gives, bind}
-use Rattle.code_gen.specs.Scope.{all_died}
-use Rattle.code_gen.specs.Operators.{told, is_true}
+use Rattle.vm_code.specs.Slots.{all_died}
+use Rattle.vm_code.specs.Operators.{told, is_true}
 
 -- What an expression yields: a value, and the value objects that its full expression has made so far, the last first.
 pub record Yield : Type 0 where

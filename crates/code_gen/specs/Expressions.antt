@@ -21,12 +21,12 @@ use Rattle.c_core.specs.Tree.{Core, At, Node, Cores, NoCore, MoreCores, type_in}
 use Rattle.c_core.specs.Tree as tree
 use Rattle.c_core.specs.TreeUnit.{Program}
 use Rattle.c_core.specs.Operations.{operator_outcome, negation, complement, compares}
-use Rattle.code_gen.specs.Scope.{Held}
-use Rattle.code_gen.specs.Pointers.{moved, difference, ordered, same_pointer, member_place, array_pointer}
+use Rattle.vm_code.specs.Slots.{Held}
+use Rattle.vm_code.specs.Pointers.{moved, difference, ordered, same_pointer, member_place, array_pointer}
 use Rattle.code_gen.specs.Designation.{object_place, function_number, function_pointer}
-use Rattle.code_gen.specs.Accesses.{number_in, pointer_in, loaded, copied}
-use Rattle.code_gen.specs.Operators.{computed, told, told_if_found, pointer_moved, designated, assigned}
-use Rattle.code_gen.specs.Operators.{updated}
+use Rattle.vm_code.specs.Accesses.{number_in, pointer_in, loaded, copied}
+use Rattle.vm_code.specs.Operators.{computed, told, told_if_found, pointer_moved, assigned}
+use Rattle.code_gen.specs.Updates.{designated, updated}
 use Rattle.code_gen.specs.Evaluating.{Yield, Evaluates, yields, of_one, of_two, of_two_if, one_then, by_test, as_truth}
 use Rattle.code_gen.specs.ArgumentKinds.{arguments}
 

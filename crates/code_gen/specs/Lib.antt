@@ -1,11 +1,7 @@
 -- The definitions, in the order in which they are read.
-pub mod Scope
-pub mod Pointers
-pub mod Accesses
-pub mod Operators
 pub mod Designation
-pub mod LibraryTypes
 pub mod ArgumentKinds
+pub mod Updates
 pub mod Evaluating
 pub mod Expressions
 pub mod Flows

@@ -19,7 +19,7 @@ use Rattle.c_core.specs.declared.named.FunctionName.TheVariants.{Library as Libr
 use Rattle.c_core.specs.TreeUnit.{Definition, Static, Program}
 use Rattle.c_core.specs.TypedUnit.{main_name}
 use Rattle.code_gen.specs.Designation.{function_number, function_pointer}
-use Rattle.code_gen.specs.Accesses.{number_in}
+use Rattle.vm_code.specs.Accesses.{number_in}
 use Rattle.code_gen.specs.Calls.{enter_below}
 use Rattle.code_gen.specs.StaticContents.{static_bytes, seal_of}
 

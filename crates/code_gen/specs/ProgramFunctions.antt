@@ -11,7 +11,7 @@ use Rattle.lib_defs.specs.Handlers.{first_function}
 use Rattle.lib_defs.specs.Library.{Library}
 use Rattle.run_defs.specs.Functions.{Function, OfLibrary, OfUnit, Environment, function_number}
 use Rattle.c_core.specs.TreeUnit.{Definition, Program}
-use Rattle.code_gen.specs.LibraryTypes.{handler_type, comparing_type, row_type}
+use Rattle.library_types.specs.LibraryTypes.{handler_type, comparing_type, row_type}
 
 -- a function that the unit defines, or a library function with its name
 pub data Named : Type 0 where

@@ -11,10 +11,11 @@ use Rattle.run_defs.specs.Loads.{known}
 use Rattle.c_core.specs.Tree.{Core, pos_in}
 use Rattle.c_core.specs.TreeUnit.{Statement, Stands, Action, Statements, NoStatement, MoreStatements, Program}
 use Rattle.c_core.specs.TreeUnit as unit
-use Rattle.code_gen.specs.Scope.{Held, place_in}
-use Rattle.code_gen.specs.Pointers.{member_place}
-use Rattle.code_gen.specs.Accesses.{number_in, pointer_in, copied, content_stored}
-use Rattle.code_gen.specs.Operators.{is_true}
+use Rattle.vm_code.specs.Slots.{Held}
+use Rattle.code_gen.specs.Designation.{place_in}
+use Rattle.vm_code.specs.Pointers.{member_place}
+use Rattle.vm_code.specs.Accesses.{number_in, pointer_in, copied, content_stored}
+use Rattle.vm_code.specs.Operators.{is_true}
 use Rattle.code_gen.specs.Evaluating.{full}
 use Rattle.code_gen.specs.Expressions.{Call, value}
 use Rattle.code_gen.specs.Flows.{Flow, Next, Broke, Continued, Returned, after, branch, loop, do_loop, label_at}

@@ -1,0 +1,2 @@
+//! The types of the library functions.
+#![tactic(auto)]

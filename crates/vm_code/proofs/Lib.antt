@@ -1,0 +1,2 @@
+mod RunWords
+mod OperandRuns

@@ -1,0 +1,10 @@
+-- The definitions, in the order in which they are read.
+pub mod Contents
+pub mod Accesses
+pub mod Pointers
+pub mod Operators
+pub mod Slots
+pub mod Frames
+pub mod CodeFunctions
+pub mod Calling
+pub mod Machine

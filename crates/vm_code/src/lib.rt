@@ -1,0 +1,21 @@
+//! The code of a unit, and the machine that runs it.
+//!
+//! Code is a list of instructions over a stack of operands, with the functions, static objects, texts and called types
+//! that they name. Contracts see it as plain lists.
+#![tactic(auto)]
+
+pub mod code;
+pub mod instr;
+pub mod parts;
+pub mod reading;
+pub mod sequence;
+
+pub use c_core::Form;
+pub use code::Code;
+pub use instr::Instr;
+pub use parts::{CodeCalled, CodeFunction, CodeObject, Parameter};
+pub use run_defs::Seal;
+pub use sequence::Sequence;
+
+#[cfg(test)]
+mod tests;
