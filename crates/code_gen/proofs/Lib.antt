@@ -5,3 +5,4 @@ mod PointerRuns
 mod NumberRuns
 mod StatementRuns
 mod ObjectRuns
+mod StructureRuns
