@@ -6,3 +6,4 @@ mod NumberRuns
 mod StatementRuns
 mod ObjectRuns
 mod StructureRuns
+mod CallRuns
