@@ -1,6 +1,6 @@
 -- Parts of a range that is reached to be stored to, and how long a range that is reached may be.
 use Rattle.std.proofs.Common.{◌≡◌, ℕ, ◌+◌, ◌*◌, ◌≤◌, nat_le, Bool, true, false, cond, List, length, slice_get}
-use Rattle.std.proofs.Common.{Option, Some, None, refl, subst, arith}
+use Rattle.std.proofs.Common.{Some, None, refl, subst, arith}
 use Rattle.std.specs.List.{All}
 use Rattle.std.proofs.lemmas.Option.{get_or_from_slice_get, slice_get_within}
 use Rattle.object_store.specs.declared.by.By.{By}
