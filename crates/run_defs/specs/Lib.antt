@@ -5,5 +5,7 @@ pub mod Evaluation
 pub mod Loads
 pub mod Functions
 pub mod Served
+pub mod Short
+pub mod Lines
 pub mod Calls
 pub mod Starts

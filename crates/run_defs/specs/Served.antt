@@ -104,7 +104,7 @@ pub record Failure : Type 0 where
 abbrev pub handled : Environment → LibraryCall → Failure → Handles → State → Evaluation Served
 handled e call failure ByUnit s =
     Gives (Wants (function_number s.world.handler.current) (values_of (told failure.class))
-        (record { call = call; waits = ForHandler failure.constraint failure.value }))
+    (record { call = call; waits = ForHandler failure.constraint failure.value }))
     (logged (HandlerCalled (handler_name e s.world.handler.current)) s)
 handled e call failure (ByLibrary row) s =
     row_handled e call failure.value (e.library.call row (told failure.class) s.world).did

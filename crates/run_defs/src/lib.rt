@@ -7,14 +7,16 @@
 pub mod attempt;
 pub mod event;
 pub mod library_call;
+pub mod line_text;
 pub mod outcome;
+mod parts;
 pub mod seal;
-
 pub mod values;
 
 pub use attempt::Attempt;
 pub use event::Event;
+pub use library_call::{LibraryCall, Suspended, Waits};
+pub use line_text::event_line;
 pub use outcome::Outcome;
 pub use seal::Seal;
-pub use library_call::{LibraryCall, Suspended, Waits};
 pub use values::Values;
