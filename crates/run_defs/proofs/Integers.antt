@@ -10,5 +10,5 @@ pub short_integer : (z : ℤ) → IsShort (Number z) → length (signed_decimal 
 short_integer (pos n) h = length-decimal-le_wide 20 n (omega arith) (omega (arith, h)) (omega (arith, h))
 short_integer (negsuc n) h =
     let le : length (decimal (suc n)) ≤ 19 =
-        length-decimal-le_wide 19 (suc n) (omega arith) (omega (arith, h)) (omega (arith, h))
+    length-decimal-le_wide 19 (suc n) (omega arith) (omega (arith, h)) (omega (arith, h))
     in omega (arith, le)

@@ -6,6 +6,7 @@
 
 pub mod attempt;
 pub mod event;
+pub mod journal;
 pub mod library_call;
 pub mod line_text;
 pub mod outcome;
@@ -15,6 +16,7 @@ pub mod values;
 
 pub use attempt::Attempt;
 pub use event::Event;
+pub use journal::{Journal, LineJournal, NoJournal};
 pub use library_call::{LibraryCall, Suspended, Waits};
 pub use line_text::event_line;
 pub use outcome::Outcome;
