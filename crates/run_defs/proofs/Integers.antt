@@ -1,5 +1,5 @@
 -- How long numbers of 64 bits are in decimal.
-use Rattle.std.proofs.Common.{ℕ, suc, ◌≤◌, ◌+◌, List, ◌∷◌, length, arith}
+use Rattle.std.proofs.Common.{suc, ◌≤◌, length, arith}
 use Rattle.std.specs.Prelude.{ℤ, pos, negsuc}
 use Rattle.std.specs.Fmt.{decimal, signed_decimal}
 use Rattle.std.proofs.lemmas.Fmt.{length-decimal-le_wide}

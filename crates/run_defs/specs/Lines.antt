@@ -17,8 +17,8 @@ use Rattle.lib_defs.specs.declared.shown.Shown.TheVariants.{Number, Function, Pl
 use Rattle.run_defs.specs.declared.attempt.Attempt.{Attempt}
 use Rattle.run_defs.specs.declared.event.Event.{Event}
 use Rattle.run_defs.specs.declared.event.Event.TheVariants as event
-use Rattle.run_defs.specs.declared.outcome.Outcome.{Outcome}
-use Rattle.run_defs.specs.declared.outcome.Outcome.TheVariants as outcome
+use Rattle.run_defs.specs.declared.outcome.End.{End}
+use Rattle.run_defs.specs.declared.outcome.End.TheVariants as end
 use Rattle.run_defs.specs.Functions.{row_name}
 
 abbrev pub class_text : Class → List ℕ
@@ -65,14 +65,14 @@ attempt_text a =
 abbrev pub trap_text : Case → Pos → List ℕ
 trap_text case pos = codes "trap " ++ decimal (case_row case).number ++ codes " at " ++ place_text pos
 
-abbrev pub outcome_text : Outcome → List ℕ
-outcome_text (outcome.Exited status) = codes "exited " ++ decimal status
-outcome_text outcome.Aborted = codes "aborted"
-outcome_text (outcome.Trapped case pos) = codes "trapped " ++ decimal (case_row case).number
-outcome_text (outcome.Undefined code pos) = codes "undefined " ++ (code_row code).name
-outcome_text outcome.OutOfTicks = codes "out of ticks"
-outcome_text outcome.OutOfBytes = codes "out of bytes"
-outcome_text outcome.ReadFault = codes "input failed"
+abbrev pub end_text : End → List ℕ
+end_text (end.Exited status) = codes "exited " ++ decimal status
+end_text end.Aborted = codes "aborted"
+end_text (end.Trapped case) = codes "trapped " ++ decimal (case_row case).number
+end_text (end.Undefined code) = codes "undefined " ++ (code_row code).name
+end_text end.OutOfTicks = codes "out of ticks"
+end_text end.OutOfBytes = codes "out of bytes"
+end_text end.ReadFault = codes "input failed"
 
 -- The line of an event, without its newline.
 unfoldable pub event_text : Event → List ℕ
@@ -95,7 +95,7 @@ event_text (event.ValueFailed case pos value) = trap_text case pos ++ codes " fu
 event_text (event.ArgumentFailed pos argument) =
     codes "trap 9 at " ++ place_text pos ++ codes " argument " ++ decimal argument
 event_text (event.Stopped code pos) = codes "stop " ++ (code_row code).name ++ codes " at " ++ place_text pos
-event_text (event.Ended outcome) = codes "end " ++ outcome_text outcome
+event_text (event.Ended e) = codes "end " ++ end_text e
 
 -- the same with its newline
 abbrev pub event_line : Event → List ℕ

@@ -19,6 +19,6 @@ pub use event::Event;
 pub use journal::{Journal, LineJournal, NoJournal};
 pub use library_call::{LibraryCall, Suspended, Waits};
 pub use line_text::event_line;
-pub use outcome::Outcome;
+pub use outcome::{End, Outcome};
 pub use seal::Seal;
 pub use values::Values;

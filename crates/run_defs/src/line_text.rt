@@ -5,7 +5,7 @@ ghost use Rattle.run_defs.specs.Lines.{event_text, event_line as the_line};
 use crate::attempt::Attempt;
 use crate::event::Event;
 use crate::parts::{
-    push_attempt, push_class, push_mark, push_next, push_number, push_outcome, push_pos, push_row,
+    push_attempt, push_class, push_end, push_mark, push_next, push_number, push_pos, push_row,
     push_trap, push_value, push_values,
 };
 use crate::seal::Seal;
@@ -105,9 +105,9 @@ fn push_event(line: &mut Line, event: &Event)
             line.push(b" at ");
             push_pos(line, pos);
         }
-        Event::Ended(outcome) => {
+        Event::Ended(end) => {
             line.push(b"end ");
-            push_outcome(line, *outcome);
+            push_end(line, *end);
         }
     }
 }

@@ -6,11 +6,11 @@ ghost use Rattle.critical_table.specs.Report.{place_text};
 ghost use Rattle.lib_defs.specs.declared.shown.Shown.TheVariants.{Number};
 ghost use Rattle.run_defs.specs.Functions.{row_name};
 ghost use Rattle.run_defs.specs.Lines.{class_text, mark_text, by_text, value_text, values_text, pointer_text};
-ghost use Rattle.run_defs.specs.Lines.{attempt_text, trap_text, outcome_text};
+ghost use Rattle.run_defs.specs.Lines.{attempt_text, trap_text, end_text};
 ghost use Rattle.run_defs.specs.Short.{IsShort};
 
 use crate::attempt::Attempt;
-use crate::outcome::Outcome;
+use crate::outcome::End;
 use critical_table::{Case, Line, Pos};
 use itoa::Buffer;
 use lib_defs::{Row, Shown};
@@ -181,27 +181,27 @@ pub(crate) fn push_trap(line: &mut Line, case: Case, pos: &Pos)
     push_pos(line, pos);
 }
 
-pub(crate) fn push_outcome(line: &mut Line, outcome: Outcome)
+pub(crate) fn push_end(line: &mut Line, end: End)
     requires { length line.old + 24 ≤ 160 }
-    ensures text { line.new ≡ line.old ++ outcome_text outcome }
+    ensures text { line.new ≡ line.old ++ end_text end }
     ensures short { length line.new ≤ length line.old + 24 }
 {
-    match outcome {
-        Outcome::Exited(status) => {
+    match end {
+        End::Exited(status) => {
             line.push(b"exited ");
             push_number(line, u32::from(status));
         }
-        Outcome::Aborted => line.push(b"aborted"),
-        Outcome::Trapped(case, _) => {
+        End::Aborted => line.push(b"aborted"),
+        End::Trapped(case) => {
             line.push(b"trapped ");
             push_number(line, u32::from(case.number()));
         }
-        Outcome::Undefined(code, _) => {
+        End::Undefined(code) => {
             line.push(b"undefined ");
             line.push(code.name().as_bytes());
         }
-        Outcome::OutOfTicks => line.push(b"out of ticks"),
-        Outcome::OutOfBytes => line.push(b"out of bytes"),
-        Outcome::ReadFault => line.push(b"input failed"),
+        End::OutOfTicks => line.push(b"out of ticks"),
+        End::OutOfBytes => line.push(b"out of bytes"),
+        End::ReadFault => line.push(b"input failed"),
     }
 }
