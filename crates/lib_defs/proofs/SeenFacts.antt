@@ -3,6 +3,7 @@ use Rattle.std.proofs.Common.{◌≡◌, ℕ, zero, suc, ◌==◌, Bool, true, f
 use Rattle.std.proofs.Common.{Some, None, refl, ap, subst, ◌∙◌}
 use Rattle.std.specs.Prelude.{ℤ}
 use Rattle.object_store.specs.declared.pointer.Pointer.{Pointer}
+use Rattle.lib_defs.specs.declared.shown.Shown.TheVariants.{Place}
 use Rattle.lib_defs.specs.declared.value.Value.{Value}
 use Rattle.lib_defs.specs.declared.value.Value.TheVariants.{Num, Ptr, Nothing}
 use Rattle.lib_defs.specs.declared.violation.Violation.{Violation}
@@ -11,7 +12,7 @@ use Rattle.lib_defs.specs.Constraints.{decisions, classes}
 use Rattle.lib_defs.specs.Columns.{is_null}
 use Rattle.lib_defs.specs.Rules.{Rule}
 use Rattle.lib_defs.specs.RowTable.{pointer_of, size_of, number_of, ptr, count, num}
-use Rattle.lib_defs.specs.Shown.{Place, argument_shown, value_shown, write_of, none_fails, is_first_failing}
+use Rattle.lib_defs.specs.Shown.{argument_shown, value_shown, write_of, none_fails, is_first_failing}
 
 -- a value as far as a line shows it
 abbrev pub seen : Value → Value

@@ -19,6 +19,7 @@ use Rattle.lib_defs.specs.declared.handler.Handler.{Handler}
 use Rattle.lib_defs.specs.declared.row.Row.{Row}
 use Rattle.lib_defs.specs.declared.row_name.RowName.{RowName}
 use Rattle.lib_defs.specs.declared.row_name.RowName.TheVariants as n
+use Rattle.lib_defs.specs.declared.shown.Shown.{Shown}
 use Rattle.lib_defs.specs.declared.step.Rest.{Rest}
 use Rattle.lib_defs.specs.declared.value.Arg.{Arg}
 use Rattle.lib_defs.specs.declared.value.Value.{Value}
@@ -33,7 +34,7 @@ use Rattle.lib_defs.specs.Handlers.{first_function}
 use Rattle.lib_defs.specs.Columns.{is_null}
 use Rattle.lib_defs.specs.Allocation.{release_case}
 use Rattle.lib_defs.specs.RowTable.{ptr, violation_at}
-use Rattle.lib_defs.specs.Shown.{Shown, line_values, line_decisions, line_action, failure_at, write_of, none_fails}
+use Rattle.lib_defs.specs.Shown.{line_values, line_decisions, line_action, failure_at, write_of, none_fails}
 use Rattle.lib_defs.specs.Shown.{is_first_failing}
 use Rattle.lib_defs.specs.World.{Streams, World, Broken as BrokenInput, Flows}
 use Rattle.lib_defs.specs.Library.{Library, values_of}
