@@ -1,4 +1,5 @@
 -- Lemmas, by topic.
 pub mod Integers
+pub mod Judging
 pub mod ExampleRuns
 pub mod CallExamples

@@ -7,6 +7,7 @@
 pub mod attempt;
 pub mod event;
 pub mod journal;
+pub mod laws;
 pub mod library_call;
 pub mod line_text;
 pub mod outcome;
