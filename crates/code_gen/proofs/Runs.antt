@@ -19,7 +19,7 @@ use Rattle.lib_defs.specs.declared.row.Row.{Row}
 use Rattle.lib_defs.specs.declared.shown.Shown.{Shown}
 use Rattle.lib_defs.specs.Spans.{span}
 use Rattle.lib_defs.specs.World.{Input, AtEnd}
-use Rattle.lib_defs.specs.Sample.{sample}
+use Rattle.lib_defs.specs.Profile.{profile}
 use Rattle.run_defs.specs.declared.event.Event.{Event}
 use Rattle.run_defs.specs.declared.event.Event.TheVariants.{Made, Sealed, Stored, Died, Called, Returned, ReachFailed}
 use Rattle.run_defs.specs.declared.event.Event.TheVariants.{Stopped, Ended}
@@ -39,7 +39,7 @@ no_input = record { bytes = []; ending = AtEnd }
 
 -- the meaning of a unit over an empty input
 abbrev pub runs : Program → (ticks bytes : ℕ) → Meaning
-runs program ticks bytes = meaning sample program no_input (record { ticks = ticks; bytes = bytes })
+runs program ticks bytes = meaning profile program no_input (record { ticks = ticks; bytes = bytes })
 
 -- each journal begins with the message object, and ends with the end
 abbrev pub journal_of : List Event → Outcome → List Event
