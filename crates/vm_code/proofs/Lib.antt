@@ -1,2 +1,4 @@
 mod RunWords
 mod OperandRuns
+mod ObjectRuns
+mod CallRuns
