@@ -2,3 +2,4 @@ mod RunWords
 mod OperandRuns
 mod ObjectRuns
 mod CallRuns
+mod LibraryRuns
