@@ -1,2 +1,5 @@
 mod RunWords
 mod OperandRuns
+mod ObjectRuns
+mod CallRuns
+mod LibraryRuns

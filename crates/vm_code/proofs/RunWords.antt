@@ -4,6 +4,7 @@ use Rattle.acc_num.specs.declared.kind.IntKind.TheVariants as k
 use Rattle.critical_table.specs.declared.pos.Pos.{Pos}
 use Rattle.object_store.specs.declared.class.Class.TheVariants.{Automatic}
 use Rattle.object_store.specs.declared.pointer.Pointer.{Pointer}
+use Rattle.lib_defs.specs.declared.value.ArgKind.{ArgKind}
 use Rattle.lib_defs.specs.World.{Input, AtEnd}
 use Rattle.lib_defs.specs.Library.{Library}
 use Rattle.lib_defs.specs.Sample.{sample}
@@ -70,6 +71,21 @@ unit functions types instrs = record {
   texts = [];
   types = types;
 }
+
+-- The called types 0 and 1, of handlers and of the functions that rows want, here of no function; and type 2, of these.
+abbrev pub called : List ℕ → List Form → List ArgKind → Form → CodeCalled
+called functions arguments kinds gives =
+    record { functions = functions; arguments = arguments; kinds = kinds; form = gives }
+
+abbrev pub handlers : List ℕ → CodeCalled
+handlers functions = called functions (form.Pointer ∷ form.Pointer ∷ gives_int ∷ []) [] form.Nothing
+
+abbrev pub comparers : List ℕ → CodeCalled
+comparers functions = called functions (form.Pointer ∷ form.Pointer ∷ form.Pointer ∷ []) [] gives_int
+
+abbrev pub types_of : List ℕ → List Form → List ArgKind → Form → List CodeCalled
+types_of functions arguments kinds gives =
+    handlers [] ∷ comparers [] ∷ called functions arguments kinds gives ∷ []
 
 abbrev pub alone : List Instr → Contents
 alone instrs = unit [] [] instrs
