@@ -24,6 +24,7 @@ use Rattle.run_defs.specs.declared.event.Event.{Event}
 use Rattle.run_defs.specs.declared.event.Event.TheVariants.{Made, Sealed, Stored, Died, Called, Returned, ReachFailed}
 use Rattle.run_defs.specs.declared.event.Event.TheVariants.{Stopped, Ended}
 use Rattle.run_defs.specs.declared.outcome.Outcome.{Outcome}
+use Rattle.run_defs.specs.Outcomes.{end_of}
 use Rattle.c_core.specs.TreeUnit.{Program}
 use Rattle.code_gen.specs.Meaning.{Meaning, meaning}
 use Rattle.code_gen.proofs.Trees.{at}
@@ -44,7 +45,7 @@ runs program ticks bytes = meaning profile program no_input (record { ticks = ti
 -- each journal begins with the message object, and ends with the end
 abbrev pub journal_of : List Event → Outcome → List Event
 journal_of events outcome =
-    Made 2 131 Static ∷ Sealed 2 (record { at = 0; len = 131; mark = Literal }) ∷ events ++ Ended outcome ∷ []
+    Made 2 131 Static ∷ Sealed 2 (record { at = 0; len = 131; mark = Literal }) ∷ events ++ Ended (end_of outcome) ∷ []
 
 -- how a run ends, its output, the events between, and the ticks that it takes; nothing on the error output
 abbrev pub says : Outcome → List ℕ → List Event → ℕ → Meaning

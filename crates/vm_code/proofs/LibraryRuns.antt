@@ -18,7 +18,8 @@ use Rattle.lib_defs.specs.declared.value.ArgKind.TheVariants as kind
 use Rattle.lib_defs.specs.Reply.{Asks, Done, no_change, null}
 use Rattle.lib_defs.specs.Laws.{first_pointer}
 use Rattle.lib_defs.specs.Library.{Library}
-use Rattle.lib_defs.specs.Sample.{sample, reply_with, rest_of}
+use Rattle.lib_defs.specs.Sample.{sample, rest_of}
+use Rattle.lib_defs.specs.StreamRows.{reply_with}
 use Rattle.lib_defs.specs.World.{Input, AtEnd, Broken}
 use Rattle.run_defs.specs.declared.event.Event.{Event}
 use Rattle.run_defs.specs.declared.event.Event.TheVariants as e
@@ -123,7 +124,7 @@ failure = e.HandlerReturned ∷ e.Returned strcpy_s (Number (pos 22)) ∷ []
 -- the default handler aborts
 aborts : seen_of (with_literal 1 [] [] (violates 1 ++ i.Give ∷ []))
     ≡ ends o.Aborted (literal_made ++ violation ++ e.HandlerCalled (codes "abort_handler_s") ∷ []) 7 5
-unfolding message_bytes live_bytes
+unfolding message_bytes live_bytes reach_table
 aborts = refl
 
 -- ignore_handler_s returns, and the call gives 22
