@@ -7,3 +7,4 @@ mod StatementRuns
 mod ObjectRuns
 mod StructureRuns
 mod CallRuns
+mod LibraryRuns

@@ -1,5 +1,6 @@
 -- What is said of the runs of examples.
 use Rattle.std.specs.Prelude.{ℕ, ◌++◌, List, [], ◌∷◌}
+use Rattle.std.specs.Fmt.{digits}
 use Rattle.acc_num.specs.Numbers.{value_of}
 use Rattle.acc_num.specs.Operations.{power_of_two, converted_to}
 use Rattle.critical_table.specs.declared.case.Case.{Case}
@@ -32,7 +33,7 @@ use Rattle.code_gen.proofs.Trees.{at}
 -- what a run computes with
 unfoldable pub words : Unit {0}
 unfolding message_bytes live_bytes reach_table integer_bytes pointer_bytes load_integer load_pointer operator_outcome
-  negation complement value_of power_of_two converted_to agree bare_agree all_agree span
+  negation complement value_of power_of_two converted_to agree bare_agree all_agree span digits
 words = tt
 
 abbrev pub no_input : Input
@@ -52,6 +53,10 @@ abbrev pub says : Outcome → List ℕ → List Event → ℕ → Meaning
 says outcome output events ticks = record {
   outcome = outcome; output = output; err = []; journal = journal_of events outcome; ticks = ticks;
 }
+
+-- the same with an error output
+abbrev pub tells : Outcome → (output err : List ℕ) → List Event → ℕ → Meaning
+tells outcome output err events ticks = record (says outcome output events ticks) { err = err }
 
 -- ---- events
 
