@@ -86,7 +86,7 @@ through : runs (unit_of (identity ∷ main_at 28 (slot (to of_int) 0 ∷ [])
     ∷ return (call 62 int (get (local 61 (to of_int) 0)) (call 64 int (unit_function of_int 5) (num 3 ∷ []) ∷ [])) ∷ [])
     ∷ []) []) 10 1000
     ≡ says (Exited 3) [] (made 4 16 ∷ stored 4 0 16 ∷ made 6 4 ∷ stored 6 0 4 ∷ Died 6 ∷ made 8 4 ∷ stored 8 0 4
-        ∷ Died 8 ∷ Died 4 ∷ []) 6
+    ∷ Died 8 ∷ Died 4 ∷ []) 6
 unfolding words
 through = refl
 
@@ -128,7 +128,7 @@ end_of_main = refl
 again : runs (unit_of (main_at 19 []
     (eval (set 31 (global 30 int 12) (add 34 (get (global 32 int 12)) (num 1)))
     ∷ if_then (compare c.Equal 45 (get (global 44 int 12)) (num 1))
-        (return (add 60 (call 58 int (unit_function of_none 19) []) (num 5)))
+    (return (add 60 (call 58 int (unit_function of_none 19) []) (num 5)))
     ∷ []) ∷ []) (record { token = at 12; size = 4; items = []; seals = [] } ∷ [])) 10 1000
     ≡ says (Exited 5) [] (static 4 4 ∷ stored 4 0 4 ∷ stored 4 0 4 ∷ []) 2
 unfolding words
@@ -144,36 +144,36 @@ abbrev marked : Definition
 marked = definition 5 (codes "f") two_ints
     (record { content = content.Scalar (scalar.Number k.I32); seals = record { at = 0; len = 4 } ∷ [] } ∷ holds int ∷ [])
     gives_int (block [] (
-        eval (set 35 (deref 26 (retype (to int) (address 33 (local 34 int 0)))) (get (local 36 int 1)))
-        ∷ return (get (local 45 int 0)) ∷ []))
+    eval (set 35 (deref 26 (retype (to int) (address 33 (local 34 int 0)))) (get (local 36 int 1)))
+    ∷ return (get (local 45 int 0)) ∷ []))
 
 -- the mark is set once both are stored
 const_parameter : runs (unit_of (marked ∷ main_at 53 []
     (return (call 70 int (unit_function two_ints 5) (num 1 ∷ num 2 ∷ [])) ∷ []) ∷ []) []) 10 1000
     ≡ says (Trapped L8 (at 35)) [] (made 4 4 ∷ stored 4 0 4 ∷ made 6 4 ∷ stored 6 0 4 ∷ const_marks 4 0 4
-        ∷ unreached L8 35 (pointer 4 0 0 4) 4 4 Store ∷ []) 4
+    ∷ unreached L8 35 (pointer 4 0 0 4) 4 4 Store ∷ []) 4
 unfolding words
 const_parameter = refl
 
 -- int f(int x,int y){int z=x-y;return z;} int main(void){return f(9,4);}: z dies first, then y, then x
 deaths : runs (unit_of (definition 5 (codes "f") two_ints (holds int ∷ holds int ∷ []) gives_int
-        (block (slot int 2 ∷ []) (init 2 (binary o.Subtract 27 (get (local 26 int 0)) (get (local 28 int 1)))
-        ∷ return (get (local 38 int 2)) ∷ []))
+    (block (slot int 2 ∷ []) (init 2 (binary o.Subtract 27 (get (local 26 int 0)) (get (local 28 int 1)))
+    ∷ return (get (local 38 int 2)) ∷ []))
     ∷ main_at 50 [] (return (call 70 int (unit_function two_ints 5) (num 9 ∷ num 4 ∷ [])) ∷ []) ∷ []) []) 10 1000
     ≡ says (Exited 5) [] (made 4 4 ∷ stored 4 0 4 ∷ made 6 4 ∷ stored 6 0 4 ∷ made 8 4 ∷ stored 8 0 4
-        ∷ Died 8 ∷ Died 6 ∷ Died 4 ∷ []) 5
+    ∷ Died 8 ∷ Died 6 ∷ Died 4 ∷ []) 5
 unfolding words
 deaths = refl
 
 -- a pointer to a parameter of a call that has returned:
 -- int*f(int x){return&x;} int main(void){return*f(1);}
 dead_parameter : runs (unit_of (definition 5 (codes "f") (function (to int) (int ∷ [])) (holds int ∷ [])
-        (Some (content.Scalar scalar.Pointer)) (block [] (return (address 20 (local 21 int 0)) ∷ []))
+    (Some (content.Scalar scalar.Pointer)) (block [] (return (address 20 (local 21 int 0)) ∷ []))
     ∷ main_at 28 []
-        (return (get (deref 45 (call 47 (to int) (unit_function (function (to int) (int ∷ [])) 5) (num 1 ∷ [])))) ∷ [])
+    (return (get (deref 45 (call 47 (to int) (unit_function (function (to int) (int ∷ [])) 5) (num 1 ∷ [])))) ∷ [])
     ∷ []) []) 10 1000
     ≡ says (Trapped L1 (at 45)) []
-        (made 4 4 ∷ stored 4 0 4 ∷ Died 4 ∷ unreached L1 45 (pointer 4 0 0 4) 4 4 Star ∷ []) 3
+    (made 4 4 ∷ stored 4 0 4 ∷ Died 4 ∷ unreached L1 45 (pointer 4 0 0 4) 4 4 Star ∷ []) 3
 unfolding words
 dead_parameter = refl
 
@@ -183,9 +183,9 @@ dead_parameter = refl
 abbrev factorial : Definition
 factorial = definition 5 (codes "f") of_int (holds int ∷ []) gives_int (block []
     (return (At int (at 22) (tree.Cond (get (local 21 int 0))
-        (binary o.Multiply 24 (get (local 23 int 0))
-            (call 26 int (unit_function of_int 5) (binary o.Subtract 28 (get (local 27 int 0)) (num 1) ∷ [])))
-        (num 1))) ∷ []))
+    (binary o.Multiply 24 (get (local 23 int 0))
+    (call 26 int (unit_function of_int 5) (binary o.Subtract 28 (get (local 27 int 0)) (num 1) ∷ [])))
+    (num 1))) ∷ []))
 
 factorial_runs : (runs (unit_of (factorial ∷ main_at 39 [] (return (call 56 int (unit_function of_int 5) (num 4 ∷ [])) ∷ [])
     ∷ []) []) 20 2000).outcome ≡ Exited 24
@@ -196,7 +196,7 @@ factorial_runs = refl
 -- fourth is taken
 abbrev endless : Program
 endless = unit_of (definition 5 (codes "f") of_none [] gives_int
-        (block [] (return (call 20 int (unit_function of_none 5) []) ∷ []))
+    (block [] (return (call 20 int (unit_function of_none 5) []) ∷ []))
     ∷ main_at 28 [] (return (call 48 int (unit_function of_none 5) []) ∷ []) ∷ []) []
 
 endless_bytes : runs endless 100 1024 ≡ says OutOfBytes [] [] 5

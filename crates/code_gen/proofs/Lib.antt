@@ -1,6 +1,6 @@
+pub mod Ends
 pub mod Trees
 pub mod Runs
-mod FirstRuns
 mod PointerRuns
 mod NumberRuns
 mod StatementRuns
@@ -8,3 +8,4 @@ mod ObjectRuns
 mod StructureRuns
 mod CallRuns
 mod LibraryRuns
+mod HandlerRuns

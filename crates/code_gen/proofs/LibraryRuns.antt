@@ -68,7 +68,7 @@ not_ended : runs (unit_of (main (slot chars 0 ∷ []) (does (unit.Zero 0 3) ∷ 
     ∷ init_at 0 1 (constant char 98) ∷ init_at 0 2 (constant char 99) ∷ length_of 53 (decay char (local 54 chars 0)) ∷ [])
     ∷ []) []) 10 1000
     ≡ says (Trapped L12 (at 53)) [] (made 4 3 ∷ stored 4 0 3 ∷ stored 4 0 1 ∷ stored 4 1 1 ∷ stored 4 2 1 ∷ called 30 []
-        ∷ unreached L12 53 (pointer 4 3 0 3) 1 1 TextRead ∷ []) 3
+    ∷ unreached L12 53 (pointer 4 3 0 3) 1 1 TextRead ∷ []) 3
 unfolding words
 not_ended = refl
 
@@ -96,7 +96,7 @@ overlapping : runs (unit_of (main (slot four 0 ∷ []) (does (unit.Zero 0 4)
     ∷ eval_void (call_unused 38 (to type.void) (row n.Memcpy 23) (step 40 a (num 1) ∷ a ∷ size 2 ∷ []))
     ∷ return (num 0) ∷ []) ∷ []) []) 10 1000
     ≡ says (Undefined U11 (at 38)) []
-        (made 4 4 ∷ stored 4 0 4 ∷ stored 4 0 4 ∷ called 23 [] ∷ undefined U11 38 ∷ []) 3
+    (made 4 4 ∷ stored 4 0 4 ∷ stored 4 0 4 ∷ called 23 [] ∷ undefined U11 38 ∷ []) 3
 unfolding words
 overlapping = refl
 
@@ -123,7 +123,7 @@ too_long = unit_of (main (slot four 0 ∷ slot five 1 ∷ slot int 2 ∷ [])
     ∷ set_handler 60 ignore
     ∷ init 2 (call 121 int (row n.MemcpyS 0) (d ∷ size 4 ∷ decay char (local 126 five 1) ∷ size 5 ∷ []))
     ∷ eval_void (call_unused 137 int (row n.Printf 52)
-        (text 138 13 ∷ get (local 154 int 2) ∷ promoted 0 ∷ promoted 1 ∷ promoted 2 ∷ promoted 3 ∷ []))
+    (text 138 13 ∷ get (local 154 int 2) ∷ promoted 0 ∷ promoted 1 ∷ promoted 2 ∷ promoted 3 ∷ []))
     ∷ return (num 0) ∷ []) ∷ []) (text_at 138 (codes "%d %d%d%d%d\n") 13 ∷ [])
 
 too_long_runs : runs too_long 10 1000 ≡ says (Exited 0) (codes "34 0000\n")
@@ -185,10 +185,10 @@ p = local 40 (to int) 0
 growing_runs : runs (unit_of (main (slot (to int) 0 ∷ [])
     (init 0 (retype (to int) (call 28 (to type.void) (row n.Calloc 44) (size 2 ∷ size 4 ∷ [])))
     ∷ eval (set 35 p (retype (to int) (call 43 (to type.void) (row n.Realloc 45)
-        (retype (to type.void) (get p) ∷ size 12 ∷ []))))
+    (retype (to type.void) (get p) ∷ size 12 ∷ []))))
     ∷ return (add 61 (get (index 58 (get p) (num 0))) (At int (at 64) (tree.IsNull (get p)))) ∷ []) ∷ []) []) 10 1000
     ≡ says (Exited 0) [] (made 4 16 ∷ called 44 [] ∷ heap 7 8 ∷ stored 7 0 8 ∷ gave 44 (Place 7 0) ∷ stored 4 0 16
-        ∷ called 45 [] ∷ heap 9 12 ∷ stored 9 0 8 ∷ Died 7 ∷ gave 45 (Place 9 0) ∷ stored 4 0 16 ∷ Died 4 ∷ []) 6
+    ∷ called 45 [] ∷ heap 9 12 ∷ stored 9 0 8 ∷ Died 7 ∷ gave 45 (Place 9 0) ∷ stored 4 0 16 ∷ Died 4 ∷ []) 6
 unfolding words
 growing_runs = refl
 
@@ -212,8 +212,8 @@ forever = refl
 -- int main(void){int c;while((c=getchar())!=EOF)putchar(c);return 0;}
 abbrev echo : Program
 echo = unit_of (main (slot int 0 ∷ []) (does (unit.While
-        (compare c.NotEqual 41 (set 30 (local 29 int 0) (call 38 int (row n.Getchar 51) [])) minus_one)
-        (eval_void (call_unused 54 int (row n.Putchar 49) (get (local 55 int 0) ∷ []))))
+    (compare c.NotEqual 41 (set 30 (local 29 int 0) (call 38 int (row n.Getchar 51) [])) minus_one)
+    (eval_void (call_unused 54 int (row n.Putchar 49) (get (local 55 int 0) ∷ []))))
     ∷ return (num 0) ∷ []) ∷ []) []
 
 abbrev over : Input → Meaning

@@ -1,8 +1,8 @@
 -- Runs with numbers: values out of range, conversions, changes of narrow objects, parts that are not evaluated, order.
 use Rattle.std.proofs.Common.{[], refl, ℕ, ◌∷◌, ◌≡◌}
 use Rattle.acc_num.specs.declared.kind.IntKind.TheVariants as k
-use Rattle.critical_table.specs.declared.code.Code.{Code}
 use Rattle.critical_table.specs.declared.code.Code.TheVariants.{U01, U02, U03, U05, U12}
+use Rattle.critical_table.specs.declared.code.Code.{Code}
 use Rattle.c_types.specs.CType.{CType}
 use Rattle.c_core.specs.Tree.{At, Core}
 use Rattle.c_core.specs.TreeUnit.{Program}
@@ -10,11 +10,16 @@ use Rattle.c_core.specs.Tree as tree
 use Rattle.c_core.specs.declared.operator.Operator.TheVariants as o
 use Rattle.run_defs.specs.declared.event.Event.TheVariants.{Died}
 use Rattle.run_defs.specs.declared.outcome.Outcome.TheVariants.{Exited, Undefined}
+use Rattle.code_gen.proofs.Runs.{made, runs, says, stored, undefined, words}
 use Rattle.code_gen.proofs.Trees.{add, address, at, binary, bool, char, constant, convert, deref, discard, eval, get}
 use Rattle.code_gen.proofs.Trees.{init, int, local, main, num, postfix, return, retype, set, short, slot, to, unit_of}
 use Rattle.code_gen.proofs.Trees.{unsigned_char, update}
-use Rattle.code_gen.proofs.Runs.{made, runs, says, stored, undefined, words}
 use Rattle.code_gen.specs.Meaning.{Meaning}
+
+-- int main(void){return 40+2;}
+sum : runs (unit_of (main [] (return (add 25 (num 40) (num 2)) ∷ []) ∷ []) []) 10 1000 ≡ says (Exited 42) [] [] 1
+unfolding words
+sum = refl
 
 -- ---- int main(void){int x=V;return E;}
 

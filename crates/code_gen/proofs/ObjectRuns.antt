@@ -131,7 +131,7 @@ array_address : runs (unit_of (main_at 30
     [] (eval (set 45 (index 42 (get (global 41 (to int) 16)) (num 1)) (num 3)) ∷ return (num 0) ∷ []) ∷ [])
     (record { token = at 5; size = 8; items = []; seals = [] }
     ∷ object_of 16 16 (StaticAddress (record { object = at 5; offset = 4; bounds = Some (record { low = 0; high = 8 }) }))
-        [] ∷ [])) 10 1000
+    [] ∷ [])) 10 1000
     ≡ says (Trapped L7 (at 42)) [] (static 4 8 ∷ static 6 16 ∷ unreached L7 42 (pointer 4 8 0 8) 4 4 Star ∷ []) 1
 unfolding words
 array_address = refl
@@ -158,7 +158,7 @@ static_function = refl
 -- int a[2]={[1]=7}; int main(void){return a[0]+a[1];}: what has no item is 0
 static_rest : runs (unit_of (main_at 23
     [] (return (add 49 (get (index 42 (decay int (global 41 two 5)) (num 0)))
-        (get (index 47 (decay int (global 46 two 5)) (num 1)))) ∷ []) ∷ [])
+    (get (index 47 (decay int (global 46 two 5)) (num 1)))) ∷ []) ∷ [])
     (record { token = at 5; size = 8; items = record { at = 4; value = StaticNumber k.I32 (pos 7) } ∷ []; seals = [] }
     ∷ [])) 10 1000
     ≡ says (Exited 7) [] (static 4 8 ∷ []) 1

@@ -62,7 +62,7 @@ abbrev array_length : Program
 array_length = unit_of (main (slot three 0 ∷ slot (to int) 1 ∷ [])
     (init 1 (step 32 (decay int (local 31 three 0)) (num 3))
     ∷ return (convert int (At long (at 45)
-        (tree.Difference 4 (get (local 44 (to int) 1)) (decay int (local 46 three 0)))))
+    (tree.Difference 4 (get (local 44 (to int) 1)) (decay int (local 46 three 0)))))
     ∷ []) ∷ []) []
 
 array_length_runs : runs array_length 10 1000 ≡ says (Exited 3) []
@@ -94,7 +94,7 @@ null_arrow_traps = refl
 abbrev left_block : Program
 left_block = unit_of (main (slot (to int) 0 ∷ [])
     (block (slot int 1 ∷ []) (init 1 (num 1)
-        ∷ eval (set 32 (local 31 (to int) 0) (address 33 (local 34 int 1))) ∷ [])
+    ∷ eval (set 32 (local 31 (to int) 0) (address 33 (local 34 int 1))) ∷ [])
     ∷ return (get (deref 43 (get (local 44 (to int) 0)))) ∷ []) ∷ []) []
 
 left_block_traps : runs left_block 10 1000 ≡ says (Trapped L1 (at 43)) []
@@ -107,7 +107,7 @@ abbrev freed : Program
 freed = unit_of (main (slot (to int) 0 ∷ [])
     (init 0 (retype (to int) (call 28 (to type.void) (row_function (row_type n.Malloc) 43) (constant size_t 4 ∷ [])))
     ∷ eval_void (call_void 36 (row_function (row_type n.Free) 46)
-        (retype (to type.void) (get (local 37 (to int) 0)) ∷ []))
+    (retype (to type.void) (get (local 37 (to int) 0)) ∷ []))
     ∷ return (get (deref 46 (get (local 47 (to int) 0)))) ∷ []) ∷ []) []
 
 freed_traps : runs freed 10 1000 ≡ says (Trapped L11 (at 46)) []
@@ -219,7 +219,7 @@ misaligned = refl
 -- null pointers move by nothing, are equal, ordered and subtracted
 nulls : runs (a_and_b (add 60
     (add 50 (At int (at 45) (tree.Order rel.LessEqual (step 41 (null_of (to int)) (num 0)) (null_of (to int))))
-        (At int (at 55) (tree.Same true (null_of (to int)) (null_of (to int)))))
+    (At int (at 55) (tree.Same true (null_of (to int)) (null_of (to int)))))
     (convert int (At long (at 65) (tree.Difference 4 (null_of (to int)) (null_of (to int))))))) 10 1000
     ≡ says (Exited 2) [] (made 4 8 ∷ made 6 8 ∷ Died 6 ∷ Died 4 ∷ []) 3
 unfolding words
@@ -277,8 +277,8 @@ moving_stops = refl
 abbrev stale : Program
 stale = unit_of (main (slot (to int) 0 ∷ slot (to int) 1 ∷ [])
     (block (slot int 2 ∷ [])
-        (eval (set 36 (local 35 (to int) 0) (address 37 (local 38 int 2)))
-        ∷ eval (set 41 (local 40 (to int) 1) (address 42 (local 43 int 2))) ∷ [])
+    (eval (set 36 (local 35 (to int) 0) (address 37 (local 38 int 2)))
+    ∷ eval (set 41 (local 40 (to int) 1) (address 42 (local 43 int 2))) ∷ [])
     ∷ return (At int (at 54) (tree.Same true (get (local 53 (to int) 0)) (get (local 56 (to int) 1)))) ∷ []) ∷ []) []
 
 stale_runs : runs stale 10 1000 ≡ says (Exited 1) []

@@ -7,7 +7,6 @@ use Rattle.critical_table.specs.declared.case.Case.{Case}
 use Rattle.critical_table.specs.declared.code.Code.{Code}
 use Rattle.object_store.specs.declared.by.By.{By}
 use Rattle.object_store.specs.declared.class.Class.TheVariants.{Static, Automatic, Allocated}
-use Rattle.object_store.specs.declared.mark.Mark.{Mark}
 use Rattle.object_store.specs.declared.mark.Mark.TheVariants.{Literal, Const}
 use Rattle.object_store.specs.declared.pointer.Pointer.{Pointer}
 use Rattle.object_store.specs.Storage.{live_bytes}
@@ -16,13 +15,12 @@ use Rattle.object_store.specs.Reach.{reach_table}
 use Rattle.object_store.specs.Load.{integer_bytes, pointer_bytes, load_integer, load_pointer}
 use Rattle.c_types.specs.Compatible.{agree, bare_agree, all_agree}
 use Rattle.c_core.specs.Operations.{operator_outcome, negation, complement}
-use Rattle.lib_defs.specs.declared.row.Row.{Row}
 use Rattle.lib_defs.specs.declared.shown.Shown.{Shown}
 use Rattle.lib_defs.specs.Spans.{span}
 use Rattle.lib_defs.specs.World.{Input, AtEnd}
 use Rattle.lib_defs.specs.Profile.{profile}
 use Rattle.run_defs.specs.declared.event.Event.{Event}
-use Rattle.run_defs.specs.declared.event.Event.TheVariants.{Made, Sealed, Stored, Died, Called, Returned, ReachFailed}
+use Rattle.run_defs.specs.declared.event.Event.TheVariants.{Made, Sealed, Stored, Called, Returned, ReachFailed}
 use Rattle.run_defs.specs.declared.event.Event.TheVariants.{Stopped, Ended}
 use Rattle.run_defs.specs.declared.outcome.Outcome.{Outcome}
 use Rattle.run_defs.specs.Outcomes.{end_of}
@@ -33,7 +31,7 @@ use Rattle.code_gen.proofs.Trees.{at}
 -- what a run computes with
 unfoldable pub words : Unit {0}
 unfolding message_bytes live_bytes reach_table integer_bytes pointer_bytes load_integer load_pointer operator_outcome
-  negation complement value_of power_of_two converted_to agree bare_agree all_agree span digits
+    negation complement value_of power_of_two converted_to agree bare_agree all_agree span digits
 words = tt
 
 abbrev pub no_input : Input
@@ -51,7 +49,11 @@ journal_of events outcome =
 -- how a run ends, its output, the events between, and the ticks that it takes; nothing on the error output
 abbrev pub says : Outcome → List ℕ → List Event → ℕ → Meaning
 says outcome output events ticks = record {
-  outcome = outcome; output = output; err = []; journal = journal_of events outcome; ticks = ticks;
+  outcome = outcome;
+  output = output;
+  err = [];
+  journal = journal_of events outcome;
+  ticks = ticks;
 }
 
 -- the same with an error output

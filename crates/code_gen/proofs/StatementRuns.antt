@@ -108,7 +108,7 @@ do_breaks = refl
 break_leaves : runs (counting (does (unit.While (num 1) (block (slot int 2 ∷ [])
     (init 2 (num 1) ∷ block (slot int 3 ∷ []) (init 3 (num 2) ∷ does unit.Break ∷ []) ∷ []))))) 10 1000
     ≡ says (Exited 0) []
-        (counted (made 8 4 ∷ stored 8 0 4 ∷ made 10 4 ∷ stored 10 0 4 ∷ Died 10 ∷ Died 8 ∷ gone)) 6
+    (counted (made 8 4 ∷ stored 8 0 4 ∷ made 10 4 ∷ stored 10 0 4 ∷ Died 10 ∷ Died 8 ∷ gone)) 6
 unfolding words
 break_leaves = refl
 

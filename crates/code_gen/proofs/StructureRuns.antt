@@ -10,14 +10,15 @@ use Rattle.c_core.specs.Tree.{Core}
 use Rattle.c_core.specs.TreeUnit as unit
 use Rattle.c_core.specs.declared.operator.Operator.TheVariants as o
 use Rattle.c_core.specs.declared.form.Content.TheVariants as content
+use Rattle.lib_defs.specs.declared.shown.Shown.TheVariants.{Place}
 use Rattle.run_defs.specs.declared.outcome.Outcome.TheVariants.{Exited, OutOfBytes, Trapped, Undefined}
-use Rattle.run_defs.specs.declared.event.Event.TheVariants.{Died}
+use Rattle.run_defs.specs.declared.event.Event.TheVariants.{Died, ValueFailed}
 use Rattle.run_defs.specs.declared.event.Event.{Event}
-use Rattle.code_gen.proofs.Runs.{made, pointer, runs, says, stored, undefined, unreached, words}
 use Rattle.code_gen.proofs.Trees.{add, at, binary, block, by_value, call, call_giving, call_whole, decay, definition}
 use Rattle.code_gen.proofs.Trees.{deref, discard, does, eval, eval_void, function, get, gives_int, holds, init_at}
-use Rattle.code_gen.proofs.Trees.{init_whole, int, local, main, main_at, member, nothing, num, pair, return, retype}
-use Rattle.code_gen.proofs.Trees.{set, set_whole, slot, step, to, unit_function, unit_of}
+use Rattle.code_gen.proofs.Trees.{init_whole, int, local, main, main_at, member, nothing, null_of, num, pair, return}
+use Rattle.code_gen.proofs.Trees.{retype, set, set_whole, slot, step, to, unit_function, unit_of}
+use Rattle.code_gen.proofs.Runs.{made, pointer, runs, says, stored, undefined, unreached, words}
 
 -- struct s{int a,b;}; each unit has `v` in slot 0, with 1 and 2
 abbrev v : Core
@@ -65,8 +66,8 @@ indeterminate = refl
 abbrev overlapping : ℕ → Program
 overlapping n = unit_of (main (record { slot = 0; size = 12 } ∷ [])
     (eval (set_whole 37
-        (deref 25 (retype (to pair) (decay int (local 36 (Array int (Some 3)) 0))))
-        (deref 38 (retype (to pair) (step 51 (decay int (local 50 (Array int (Some 3)) 0)) (num n)))))
+    (deref 25 (retype (to pair) (decay int (local 36 (Array int (Some 3)) 0))))
+    (deref 38 (retype (to pair) (step 51 (decay int (local 50 (Array int (Some 3)) 0)) (num n)))))
     ∷ return (num 0) ∷ []) ∷ []) []
 
 -- by 4 of 8 bytes
@@ -102,7 +103,7 @@ f = definition 5 (codes "f") takes_pair (holds_pair ∷ []) gives_int (block [] 
 abbrev passing : Program
 passing = unit_of (f ∷ main_at 50 (slot pair 0 ∷ []) (set_up ++
     return (add 90 (binary o.Multiply 85
-        (call 80 int (unit_function takes_pair 5) (by_value v ∷ [])) (num 10)) (member_a 92 v)) ∷ []) ∷ []) []
+    (call 80 int (unit_function takes_pair 5) (by_value v ∷ [])) (num 10)) (member_a 92 v)) ∷ []) ∷ []) []
 
 -- the value object 6, then the parameter 8; v stays as it was; the value object dies with the full expression
 passing_runs : runs passing 10 1000 ≡ says (Exited 31) []
@@ -187,3 +188,10 @@ unreturned : runs (unit_of (definition 10 (codes "k") k_type [] (Some (content.W
     ≡ says (Undefined U04 (at 91)) [] (made 4 8 ∷ Died 4 ∷ made 6 8 ∷ undefined U04 91 ∷ []) 5
 unfolding words
 unreturned = refl
+
+-- int main(void){return((struct s(*)(int))0)(1).a;}: the value object is made before the function is tested
+no_function : runs (unit_of (main_at 5 [] (return (member_a 46 (call_whole 43 pair (null_of (to gives_pair)) (num 1 ∷ [])))
+    ∷ []) ∷ []) []) 20 2000
+    ≡ says (Trapped L6 (at 43)) [] (made 4 8 ∷ ValueFailed L6 (at 43) (Place 0 0) ∷ []) 2
+unfolding words
+no_function = refl

@@ -11,3 +11,4 @@ pub mod ProgramFunctions
 pub mod Calls
 pub mod StaticContents
 pub mod Meaning
+pub mod Law
