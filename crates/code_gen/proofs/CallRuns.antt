@@ -51,7 +51,8 @@ unfolding words
 left_to_right = refl
 
 -- int main(void){return((int(*)(int))0)(putchar(97));}: the argument is evaluated before the function is tested
-no_function : runs (unit_of (main [] (return (call 37 int (null_of (to of_int)) (put 45 97 ∷ [])) ∷ []) ∷ []) []) 10 1000
+no_function : runs (unit_of (main [] (return (call 37 int (null_of (to of_int)) (put 45 97 ∷ [])) ∷ [])
+    ∷ []) []) 10 1000
     ≡ says (Trapped L6 (at 37)) (97 ∷ []) (puts 97 ++ ValueFailed L6 (at 37) (Place 0 0) ∷ []) 2
 unfolding words
 no_function = refl
@@ -75,7 +76,8 @@ other_library_type = refl
 
 -- int main(void){return((int(*)(int))putchar)(97);}
 same_library_type : runs (unit_of (main []
-    (return (call 43 int (retype (to of_int) (row_function (row_type n.Putchar) 49)) (num 97 ∷ [])) ∷ []) ∷ []) []) 10 1000
+    (return (call 43 int (retype (to of_int) (row_function (row_type n.Putchar) 49)) (num 97 ∷ [])) ∷ [])
+    ∷ []) []) 10 1000
     ≡ says (Exited 97) (97 ∷ []) (puts 97) 2
 unfolding words
 same_library_type = refl
@@ -142,7 +144,8 @@ two_ints = function int (int ∷ int ∷ [])
 
 abbrev marked : Definition
 marked = definition 5 (codes "f") two_ints
-    (record { content = content.Scalar (scalar.Number k.I32); seals = record { at = 0; len = 4 } ∷ [] } ∷ holds int ∷ [])
+    (record { content = content.Scalar (scalar.Number k.I32); seals = record { at = 0; len = 4 } ∷ [] } ∷ holds int
+    ∷ [])
     gives_int (block [] (
     eval (set 35 (deref 26 (retype (to int) (address 33 (local 34 int 0)))) (get (local 36 int 1)))
     ∷ return (get (local 45 int 0)) ∷ []))
@@ -187,7 +190,8 @@ factorial = definition 5 (codes "f") of_int (holds int ∷ []) gives_int (block 
     (call 26 int (unit_function of_int 5) (binary o.Subtract 28 (get (local 27 int 0)) (num 1) ∷ [])))
     (num 1))) ∷ []))
 
-factorial_runs : (runs (unit_of (factorial ∷ main_at 39 [] (return (call 56 int (unit_function of_int 5) (num 4 ∷ [])) ∷ [])
+factorial_runs : (runs (unit_of (factorial ∷ main_at 39 [] (return (call 56 int (unit_function of_int 5) (num 4
+    ∷ [])) ∷ [])
     ∷ []) []) 20 2000).outcome ≡ Exited 24
 unfolding words
 factorial_runs = refl

@@ -44,7 +44,8 @@ h_at token = unit_function handler_type token
 
 -- void h(const char*m,void*o,errno_t e){..}
 abbrev handler_at : ℕ → List Statement → Definition
-handler_at token body = definition token (codes "h") handler_type (holds (to char) ∷ holds (to type.void) ∷ holds int ∷ [])
+handler_at token body = definition token (codes "h") handler_type (holds (to char) ∷ holds (to type.void)
+    ∷ holds int ∷ [])
     None (block [] body)
 
 -- strcpy_s(0,1,"a"), the call and the literal at columns
@@ -143,7 +144,8 @@ abbrev returning : Program
 returning = violating 44 72 82 87 (h_at 6) (handler_at 6 [] ∷ [])
 
 handler_returns : runs returning 10 1000 ≡ says (Exited 0) []
-    (literal_made 4 ++ handler_set (codes "h") abort_name ++ violated 4 ++ enters_h 6 8 10 ++ leaves_h 6 8 10 ++ failed) 7
+    (literal_made 4 ++ handler_set (codes "h") abort_name ++ violated 4 ++ enters_h 6 8 10 ++ leaves_h 6 8 10
+    ++ failed) 7
 unfolding words
 handler_returns = refl
 
@@ -172,12 +174,14 @@ handler_byte_short = refl
 -- int main(void){set_constraint_handler_s(h);strcpy_s(0,1,"a");strcpy_s(0,1,"a");return 0;}, on one line
 abbrev resetting : Program
 resetting = unit_of (handler_at 6 (set_handler 63 (null_of (to handler_type)) ∷ [])
-    ∷ main_at 72 [] (set_handler 107 (h_at 6) ∷ copies_unused 119 124 ∷ copies_unused 137 142 ∷ return (num 0) ∷ []) ∷ [])
+    ∷ main_at 72 [] (set_handler 107 (h_at 6) ∷ copies_unused 119 124 ∷ copies_unused 137 142 ∷ return (num 0)
+    ∷ []) ∷ [])
     (a_at 124 ∷ a_at 142 ∷ [])
 
 resetting_aborts : runs resetting 20 1000 ≡ tells Aborted [] (codes "abort_handler_s: null pointer\n")
     (literal_made 4 ++ literal_made 6 ++ handler_set (codes "h") abort_name ++ violated 4 ++ enters_h 8 10 12
-    ++ handler_set abort_name (codes "h") ++ leaves_h 8 10 12 ++ failed ++ violated 6 ++ HandlerCalled abort_name ∷ []) 10
+    ++ handler_set abort_name (codes "h") ++ leaves_h 8 10 12 ++ failed ++ violated 6 ++ HandlerCalled abort_name
+    ∷ []) 10
 unfolding words
 resetting_aborts = refl
 
@@ -201,7 +205,8 @@ telling_runs = refl
 -- int main(void){set_constraint_handler_s(h);strcpy_s(0,1,"a");return 0;}, on one line: handlers in handlers
 abbrev deep : Program
 deep = unit_of (handler_at 6 (copies_unused 47 52 ∷ [])
-    ∷ main_at 62 [] (set_handler 97 (h_at 6) ∷ copies_unused 109 114 ∷ return (num 0) ∷ []) ∷ []) (a_at 52 ∷ a_at 114 ∷ [])
+    ∷ main_at 62 [] (set_handler 97 (h_at 6) ∷ copies_unused 109 114 ∷ return (num 0) ∷ []) ∷ []) (a_at 52
+    ∷ a_at 114 ∷ [])
 
 deep_ticks : runs deep 13 5000 ≡ says OutOfTicks []
     (literal_made 4 ++ literal_made 6 ++ handler_set (codes "h") abort_name ++ violated 6 ++ enters_h 8 10 12

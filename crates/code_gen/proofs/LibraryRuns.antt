@@ -65,7 +65,8 @@ abbrev length_of : ℕ → Core → Statement
 length_of column c = return (convert int (call column size_t (row n.Strlen 30) (c ∷ [])))
 
 not_ended : runs (unit_of (main (slot chars 0 ∷ []) (does (unit.Zero 0 3) ∷ init_at 0 0 (constant char 97)
-    ∷ init_at 0 1 (constant char 98) ∷ init_at 0 2 (constant char 99) ∷ length_of 53 (decay char (local 54 chars 0)) ∷ [])
+    ∷ init_at 0 1 (constant char 98) ∷ init_at 0 2 (constant char 99)
+    ∷ length_of 53 (decay char (local 54 chars 0)) ∷ [])
     ∷ []) []) 10 1000
     ≡ says (Trapped L12 (at 53)) [] (made 4 3 ∷ stored 4 0 3 ∷ stored 4 0 1 ∷ stored 4 1 1 ∷ stored 4 2 1 ∷ called 30 []
     ∷ unreached L12 53 (pointer 4 3 0 3) 1 1 TextRead ∷ []) 3
@@ -194,7 +195,8 @@ growing_runs = refl
 
 -- int main(void){int x;free(&x);return 0;}
 not_allocated : runs (unit_of (main (slot int 0 ∷ [])
-    (eval_void (call_void 26 (row n.Free 46) (retype (to type.void) (address 27 (local 28 int 0)) ∷ [])) ∷ return (num 0) ∷ [])
+    (eval_void (call_void 26 (row n.Free 46) (retype (to type.void) (address 27 (local 28 int 0)) ∷ []))
+    ∷ return (num 0) ∷ [])
     ∷ []) []) 10 1000
     ≡ says (Trapped L9 (at 26)) [] (made 4 4 ∷ called 46 [] ∷ ValueFailed L9 (at 26) (Place 4 0) ∷ []) 3
 unfolding words
@@ -235,7 +237,8 @@ unfolding words
 echo_breaks = refl
 
 -- int main(void){exit(263);}; nothing dies at the end of a run
-exiting : runs (unit_of (main (slot int 0 ∷ []) (eval_void (call_void 20 (row n.Exit 47) (num 263 ∷ [])) ∷ []) ∷ []) []) 10 1000
+exiting : runs (unit_of (main (slot int 0 ∷ []) (eval_void (call_void 20 (row n.Exit 47) (num 263 ∷ [])) ∷ [])
+    ∷ []) []) 10 1000
     ≡ says (Exited 7) [] (made 4 4 ∷ called 47 [] ∷ []) 3
 unfolding words
 exiting = refl

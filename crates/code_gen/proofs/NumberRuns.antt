@@ -98,7 +98,8 @@ converted_to_truth = refl
 -- ---- parts that are not evaluated
 
 -- x&&1/x at 0
-and_decided : runs (with_x 0 (At int (at 41) (tree.AndAlso (get x) (binary o.Divide 44 (num 1) (get x))))) 10 1000 ≡ fine 0
+and_decided : runs (with_x 0 (At int (at 41) (tree.AndAlso (get x) (binary o.Divide 44 (num 1) (get x))))) 10 1000
+    ≡ fine 0
 unfolding words
 and_decided = refl
 
@@ -108,7 +109,8 @@ unfolding words
 and_evaluated = refl
 
 -- x||1/0 at 1, and at 0
-or_decided : runs (with_x 1 (At int (at 41) (tree.OrElse (get x) (binary o.Divide 44 (num 1) (num 0))))) 10 1000 ≡ fine 1
+or_decided : runs (with_x 1 (At int (at 41) (tree.OrElse (get x) (binary o.Divide 44 (num 1) (num 0))))) 10 1000
+    ≡ fine 1
 unfolding words
 or_decided = refl
 
@@ -118,7 +120,8 @@ unfolding words
 or_evaluated = refl
 
 -- x?2:1/0 at 1, and at 0
-chosen : runs (with_x 1 (At int (at 41) (tree.Cond (get x) (num 2) (binary o.Divide 44 (num 1) (num 0))))) 10 1000 ≡ fine 2
+chosen : runs (with_x 1 (At int (at 41) (tree.Cond (get x) (num 2) (binary o.Divide 44 (num 1) (num 0))))) 10 1000
+    ≡ fine 2
 unfolding words
 chosen = refl
 

@@ -92,7 +92,8 @@ unfolding words
 no_tick = refl
 
 -- bytes of a block that was left are free again: int main(void){{int x;}{int y;}return 0;}
-given_back : runs (unit_of (main [] (block (slot int 0 ∷ []) [] ∷ block (slot int 0 ∷ []) [] ∷ return (num 0) ∷ []) ∷ []) [])
+given_back : runs (unit_of (main [] (block (slot int 0 ∷ []) [] ∷ block (slot int 0 ∷ []) [] ∷ return (num 0) ∷ [])
+    ∷ []) [])
     10 260 ≡ says (Exited 0) [] (made 4 4 ∷ Died 4 ∷ made 6 4 ∷ Died 6 ∷ []) 3
 unfolding words
 given_back = refl
@@ -130,7 +131,14 @@ static_bytes_enough = refl
 array_address : runs (unit_of (main_at 30
     [] (eval (set 45 (index 42 (get (global 41 (to int) 16)) (num 1)) (num 3)) ∷ return (num 0) ∷ []) ∷ [])
     (record { token = at 5; size = 8; items = []; seals = [] }
-    ∷ object_of 16 16 (StaticAddress (record { object = at 5; offset = 4; bounds = Some (record { low = 0; high = 8 }) }))
+    ∷ object_of 16 16 (StaticAddress (record {
+      object = at 5;
+      offset = 4;
+      bounds = Some (record {
+        low = 0;
+        high = 8;
+      });
+    }))
     [] ∷ [])) 10 1000
     ≡ says (Trapped L7 (at 42)) [] (static 4 8 ∷ static 6 16 ∷ unreached L7 42 (pointer 4 8 0 8) 4 4 Star ∷ []) 1
 unfolding words

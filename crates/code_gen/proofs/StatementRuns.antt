@@ -126,7 +126,8 @@ unfolding words
 branches = refl
 
 -- i; loads i, and so may stop; (void)0; does nothing
-useless : runs (unit_of (main (slot int 0 ∷ []) (eval (num 0) ∷ eval (get (local 30 int 0)) ∷ return (num 0) ∷ []) ∷ []) [])
+useless : runs (unit_of (main (slot int 0 ∷ []) (eval (num 0) ∷ eval (get (local 30 int 0)) ∷ return (num 0) ∷ [])
+    ∷ []) [])
     10 1000 ≡ says (Undefined U05 (at 30)) [] (made 4 4 ∷ undefined U05 30 ∷ []) 2
 unfolding words
 useless = refl
@@ -135,7 +136,8 @@ useless = refl
 
 abbrev switching : ℤ → Option ℕ → Program
 switching value default = counting (does (unit.Switch (At int (at 30) (tree.Number k.I32 value)) []
-    (statements (raise s (num 1) ∷ raise s (num 10) ∷ raise s (num 100) ∷ does unit.Break ∷ eval (set 60 s (num 5)) ∷ []))
+    (statements (raise s (num 1) ∷ raise s (num 10) ∷ raise s (num 100) ∷ does unit.Break ∷ eval (set 60 s (num 5))
+    ∷ []))
     (case (pos 1) 0 ∷ case (pos 2) 1 ∷ case (pos 3) 2 ∷ []) default))
 
 falls_through : runs (switching (pos 2) (Some 4)) 10 1000

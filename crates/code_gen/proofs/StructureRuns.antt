@@ -41,7 +41,8 @@ w = local 50 pair 1
 
 abbrev assigning : Program
 assigning = unit_of (main (slot pair 0 ∷ slot pair 1 ∷ []) (set_up ++
-    eval (set_whole 51 w v) ∷ return (add 60 (binary o.Multiply 57 (member_a 55 w) (num 10)) (member_b 62 w)) ∷ []) ∷ []) []
+    eval (set_whole 51 w v) ∷ return (add 60 (binary o.Multiply 57 (member_a 55 w) (num 10)) (member_b 62 w)) ∷ [])
+    ∷ []) []
 
 assigning_runs : runs assigning 10 1000 ≡ says (Exited 12) []
     (made 4 8 ∷ made 6 8 ∷ stored 4 0 8 ∷ stored 4 0 4 ∷ stored 4 4 4 ∷ stored 6 0 8 ∷ Died 6 ∷ Died 4 ∷ []) 3
@@ -49,7 +50,8 @@ unfolding words
 assigning_runs = refl
 
 -- v=v: source and destination are the same place
-same_place : runs (unit_of (main (slot pair 0 ∷ []) (set_up ++ eval (set_whole 51 v v) ∷ return (member_b 60 v) ∷ []) ∷ []) [])
+same_place : runs (unit_of (main (slot pair 0 ∷ []) (set_up ++ eval (set_whole 51 v v) ∷ return (member_b 60 v)
+    ∷ []) ∷ []) [])
     10 1000 ≡ says (Exited 2) []
     (made 4 8 ∷ stored 4 0 8 ∷ stored 4 0 4 ∷ stored 4 4 4 ∷ stored 4 0 8 ∷ Died 4 ∷ []) 2
 unfolding words
@@ -147,7 +149,8 @@ g_runs result parameter local = made result 8 ∷ made parameter 4 ∷ stored pa
 
 -- int main(void){return g(7).b+g(8).a;}: the value objects die behind the whole expression, the last made first
 abbrev returning : Program
-returning = unit_of (g ∷ main_at 60 [] (return (add 90 (member_b 85 (call_g 82 7)) (member_a 95 (call_g 92 8))) ∷ []) ∷ []) []
+returning = unit_of (g ∷ main_at 60 [] (return (add 90 (member_b 85 (call_g 82 7)) (member_a 95 (call_g 92 8)))
+    ∷ []) ∷ []) []
 
 returning_runs : runs returning 20 2000 ≡ says (Exited 10) []
     (g_runs 4 6 8 ++ g_runs 10 12 14 ++ Died 10 ∷ Died 4 ∷ []) 9
@@ -183,14 +186,16 @@ abbrev k_type : CType
 k_type = function pair []
 
 unreturned : runs (unit_of (definition 10 (codes "k") k_type [] (Some (content.Whole 8)) nothing
-    ∷ main_at 60 [] (eval_void (discard (call_giving false 80 pair (Some (content.Whole 8)) (unit_function k_type 10) []))
+    ∷ main_at 60 [] (eval_void (discard (call_giving false 80 pair (Some (content.Whole 8)) (unit_function k_type 10)
+    []))
     ∷ return (member_a 93 (call_whole 91 pair (unit_function k_type 10) [])) ∷ []) ∷ []) []) 20 2000
     ≡ says (Undefined U04 (at 91)) [] (made 4 8 ∷ Died 4 ∷ made 6 8 ∷ undefined U04 91 ∷ []) 5
 unfolding words
 unreturned = refl
 
 -- int main(void){return((struct s(*)(int))0)(1).a;}: the value object is made before the function is tested
-no_function : runs (unit_of (main_at 5 [] (return (member_a 46 (call_whole 43 pair (null_of (to gives_pair)) (num 1 ∷ [])))
+no_function : runs (unit_of (main_at 5 [] (return (member_a 46 (call_whole 43 pair (null_of (to gives_pair)) (num 1
+    ∷ [])))
     ∷ []) ∷ []) []) 20 2000
     ≡ says (Trapped L6 (at 43)) [] (made 4 8 ∷ ValueFailed L6 (at 43) (Place 0 0) ∷ []) 2
 unfolding words

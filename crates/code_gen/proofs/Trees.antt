@@ -1,5 +1,6 @@
 -- Core trees by hand, as the checker makes them: short words for the units of the examples, which stand on one line.
-use Rattle.std.specs.Prelude.{ℕ, ◌*◌, Bool, true, false, ℤ, pos, negsuc, List, [], ◌∷◌, Option, Some, None, unwrap_or, codes}
+use Rattle.std.specs.Prelude.{ℕ, ◌*◌, Bool, true, false, ℤ, pos, negsuc, List, [], ◌∷◌, Option, Some, None, unwrap_or}
+use Rattle.std.specs.Prelude.{codes}
 use Rattle.acc_num.specs.Kinds.{bytes_of}
 use Rattle.acc_num.specs.declared.kind.IntKind.{IntKind}
 use Rattle.acc_num.specs.declared.kind.IntKind.TheVariants as k

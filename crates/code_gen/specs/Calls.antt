@@ -100,7 +100,8 @@ entered (Some (UnitFunction function)) program call number args result here s =
     activation program call function args result here s
 entered other program call number args result here s = Gives None s
 
--- The functions of a program, where fewer than n ticks are left once a call has taken its tick. So n is above 0 at each.
+-- The functions of a program, where fewer than n ticks are left once a call has taken its tick. So n is above 0 at
+-- each.
 abbrev pub enter_below : ℕ → Library → Program → Enter
 enter_below zero library program number args result here s = Stops OutOfTicks s
 enter_below (suc n) library program number args result here s =

@@ -52,8 +52,8 @@ by_test test when_true when_false made s =
 abbrev pub as_truth : Evaluates → Evaluates
 as_truth operand = of_one operand (λ v. Gives (told (is_true v)))
 
--- A full expression (6.8p4), and what is done with its value. Then the value objects that it has made die, the last made
--- first (6.2.4p8).
+-- A full expression (6.8p4), and what is done with its value. Then the value objects that it has made die, the last
+-- made first (6.2.4p8).
 abbrev pub full : {A : Type 0} → Evaluates → (Value → State → Evaluation A) → State → Evaluation A
 full expression use_value s = bind (expression [] s) (λ x s1.
     bind (use_value x.value s1) (λ a s2. Gives a (all_died x.made s2)))

@@ -129,8 +129,8 @@ module _ (program : Program) (call : Call) (held : List Held) where
         bind (value function made s) (λ f s1.
         bind (values operands f.made s1) (λ args s2.
         bind (result_object gives args.made s2) (λ x s3.
-        bind (call (type_in function) (pointer_in f.value) (arguments operands args.values) (pointer_in x.value) here s3)
-        (λ given s4.
+        bind (call (type_in function) (pointer_in f.value) (arguments operands args.values) (pointer_in x.value)
+        here s3) (λ given s4.
         bind (call_value used gives (pointer_in x.value) given here s4) (λ v s5.
         Gives (record x { value = v }) s5)))))
     node_value here (tree.ValueObject size operand) = λ made s.

@@ -1,5 +1,6 @@
 -- Where a program goes on behind a statement, and the turns of a loop (6.8).
-use Rattle.std.specs.Prelude.{ℕ, zero, suc, Bool, true, false, ℤ, int_le, ◌&&◌, List, [], ◌∷◌, Option, Some, if◌then◌else◌}
+use Rattle.std.specs.Prelude.{ℕ, zero, suc, Bool, true, false, ℤ, int_le, ◌&&◌, List, [], ◌∷◌, Option, Some}
+use Rattle.std.specs.Prelude.{if◌then◌else◌}
 use Rattle.lib_defs.specs.declared.value.Value.{Value}
 use Rattle.run_defs.specs.State.{State}
 use Rattle.run_defs.specs.declared.outcome.Outcome.TheVariants.{OutOfTicks}

@@ -30,7 +30,8 @@ no_step s = Gives tt s
 abbrev pub then_next : Evaluation (Unit {0}) → Evaluation Flow
 then_next step = bind step (λ u s. Gives Next s)
 
--- The block of a switch is entered before an item, and a `break` goes on behind it; where no label fits, it isn't entered.
+-- The block of a switch is entered before an item, and a `break` goes on behind it; where no label fits, it isn't
+-- entered.
 abbrev pub entered_at : Option ℕ → (ℕ → State → Evaluation Flow) → State → Evaluation Flow
 entered_at None items s = Gives Next s
 entered_at (Some at) items s = bind (items at s) (λ flow s1. Gives (behind_switch flow) s1)
@@ -66,7 +67,8 @@ module _ (program : Program) (call : Call) (result : Pointer) where
     action_done here (unit.Evaluate core) held s = then_next (done program call core held s)
     action_done here (unit.If test first second) held s = bind (tested program call test held s)
         (λ is_so. branch is_so (statement first held) (statement second held))
-    action_done here (unit.While test body) held s = loop (tested program call test held) (statement body held) no_step s
+    action_done here (unit.While test body) held s = loop (tested program call test held) (statement body held)
+        no_step s
     action_done here (unit.Do body test) held s = do_loop (statement body held) (tested program call test held) s
     action_done here (unit.For test step body) held s =
         loop (tested program call test held) (statement body held) (done program call step held) s

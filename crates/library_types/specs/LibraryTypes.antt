@@ -1,5 +1,5 @@
--- The types of the library functions, as their prototypes have them (clause 7, Annex K), and the types of functions that
--- the library itself calls.
+-- The types of the library functions, as their prototypes have them (clause 7, Annex K), and the types of functions
+-- that the library itself calls.
 use Rattle.std.specs.Prelude.{true, false, List, [], ◌∷◌}
 use Rattle.c_types.specs.declared.basic.Basic.TheVariants as basic
 use Rattle.c_types.specs.declared.shape.Quals.{Quals}
