@@ -190,9 +190,9 @@ factorial = definition 5 (codes "f") of_int (holds int ∷ []) gives_int (block 
     (call 26 int (unit_function of_int 5) (binary o.Subtract 28 (get (local 27 int 0)) (num 1) ∷ [])))
     (num 1))) ∷ []))
 
-factorial_runs : (runs (unit_of (factorial ∷ main_at 39 [] (return (call 56 int (unit_function of_int 5) (num 4
-    ∷ [])) ∷ [])
-    ∷ []) []) 20 2000).outcome ≡ Exited 24
+factorial_runs : (runs (unit_of (factorial
+    ∷ main_at 39 [] (return (call 56 int (unit_function of_int 5) (num 4 ∷ [])) ∷ []) ∷ []) []) 20 2000).outcome
+    ≡ Exited 24
 unfolding words
 factorial_runs = refl
 

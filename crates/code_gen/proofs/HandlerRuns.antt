@@ -174,8 +174,8 @@ handler_byte_short = refl
 -- int main(void){set_constraint_handler_s(h);strcpy_s(0,1,"a");strcpy_s(0,1,"a");return 0;}, on one line
 abbrev resetting : Program
 resetting = unit_of (handler_at 6 (set_handler 63 (null_of (to handler_type)) ∷ [])
-    ∷ main_at 72 [] (set_handler 107 (h_at 6) ∷ copies_unused 119 124 ∷ copies_unused 137 142 ∷ return (num 0)
-    ∷ []) ∷ [])
+    ∷ main_at 72 []
+        (set_handler 107 (h_at 6) ∷ copies_unused 119 124 ∷ copies_unused 137 142 ∷ return (num 0) ∷ []) ∷ [])
     (a_at 124 ∷ a_at 142 ∷ [])
 
 resetting_aborts : runs resetting 20 1000 ≡ tells Aborted [] (codes "abort_handler_s: null pointer\n")
@@ -205,8 +205,8 @@ telling_runs = refl
 -- int main(void){set_constraint_handler_s(h);strcpy_s(0,1,"a");return 0;}, on one line: handlers in handlers
 abbrev deep : Program
 deep = unit_of (handler_at 6 (copies_unused 47 52 ∷ [])
-    ∷ main_at 62 [] (set_handler 97 (h_at 6) ∷ copies_unused 109 114 ∷ return (num 0) ∷ []) ∷ []) (a_at 52
-    ∷ a_at 114 ∷ [])
+    ∷ main_at 62 [] (set_handler 97 (h_at 6) ∷ copies_unused 109 114 ∷ return (num 0) ∷ []) ∷ [])
+    (a_at 52 ∷ a_at 114 ∷ [])
 
 deep_ticks : runs deep 13 5000 ≡ says OutOfTicks []
     (literal_made 4 ++ literal_made 6 ++ handler_set (codes "h") abort_name ++ violated 6 ++ enters_h 8 10 12

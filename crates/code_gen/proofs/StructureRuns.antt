@@ -186,17 +186,16 @@ abbrev k_type : CType
 k_type = function pair []
 
 unreturned : runs (unit_of (definition 10 (codes "k") k_type [] (Some (content.Whole 8)) nothing
-    ∷ main_at 60 [] (eval_void (discard (call_giving false 80 pair (Some (content.Whole 8)) (unit_function k_type 10)
-    []))
+    ∷ main_at 60 []
+        (eval_void (discard (call_giving false 80 pair (Some (content.Whole 8)) (unit_function k_type 10) []))
     ∷ return (member_a 93 (call_whole 91 pair (unit_function k_type 10) [])) ∷ []) ∷ []) []) 20 2000
     ≡ says (Undefined U04 (at 91)) [] (made 4 8 ∷ Died 4 ∷ made 6 8 ∷ undefined U04 91 ∷ []) 5
 unfolding words
 unreturned = refl
 
 -- int main(void){return((struct s(*)(int))0)(1).a;}: the value object is made before the function is tested
-no_function : runs (unit_of (main_at 5 [] (return (member_a 46 (call_whole 43 pair (null_of (to gives_pair)) (num 1
-    ∷ [])))
-    ∷ []) ∷ []) []) 20 2000
+no_function : runs (unit_of (main_at 5 []
+    (return (member_a 46 (call_whole 43 pair (null_of (to gives_pair)) (num 1 ∷ []))) ∷ []) ∷ []) []) 20 2000
     ≡ says (Trapped L6 (at 43)) [] (made 4 8 ∷ ValueFailed L6 (at 43) (Place 0 0) ∷ []) 2
 unfolding words
 no_function = refl
