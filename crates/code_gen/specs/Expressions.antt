@@ -28,7 +28,7 @@ use Rattle.vm_code.specs.Accesses.{number_in, pointer_in, loaded, copied}
 use Rattle.vm_code.specs.Operators.{computed, told, told_if_found, pointer_moved, assigned}
 use Rattle.code_gen.specs.Updates.{designated, updated}
 use Rattle.code_gen.specs.Evaluating.{Yield, Evaluates, yields, of_one, of_two, of_two_if, one_then, by_test, as_truth}
-use Rattle.code_gen.specs.ArgumentKinds.{arguments}
+use Rattle.code_gen.specs.Arguments.{arguments}
 
 -- What a call does, once its function and its arguments are evaluated: through a pointer to a function of a type, with
 -- the object that a structure is returned to and the place of the call. It gives a value, or none where the function

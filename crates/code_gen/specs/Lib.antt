@@ -1,6 +1,6 @@
 -- The definitions, in the order in which they are read.
 pub mod Designation
-pub mod ArgumentKinds
+pub mod Arguments
 pub mod Updates
 pub mod Evaluating
 pub mod Expressions

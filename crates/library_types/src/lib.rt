@@ -1,2 +1,4 @@
-//! The types of the library functions.
+//! The types of the library functions (clause 7, Annex K).
 #![tactic(auto)]
+
+pub mod laws;

@@ -1,13 +1,9 @@
--- The kinds of arguments, by which library rows read them (6.5.2.2p6).
-use Rattle.std.specs.Prelude.{List, [], ◌∷◌}
+-- The kinds of arguments, by which library functions read them (6.5.2.2p6).
 use Rattle.c_types.specs.declared.basic.Basic.{Basic}
 use Rattle.c_types.specs.declared.basic.Basic.TheVariants as basic
 use Rattle.c_types.specs.CType.{CType, Plain, BasicType, Pointer}
-use Rattle.lib_defs.specs.declared.value.Arg.{Arg}
 use Rattle.lib_defs.specs.declared.value.ArgKind.{ArgKind}
 use Rattle.lib_defs.specs.declared.value.ArgKind.TheVariants as kind
-use Rattle.lib_defs.specs.declared.value.Value.{Value}
-use Rattle.c_core.specs.Tree.{Cores, NoCore, MoreCores, type_in}
 
 -- a pointer to a character type or to `void` is of one kind, and any other of another
 abbrev pub pointer_kind : CType → ArgKind
@@ -26,15 +22,8 @@ integer_kind basic.LongLong = kind.LongLong
 integer_kind basic.ULongLong = kind.ULongLong
 integer_kind other = kind.Int
 
--- the kind of an argument of a type; no library function takes a structure
+-- the kind of an argument of a type; no library function takes a structure, and an enumerated type is an `int`
 abbrev pub argument_kind : CType → ArgKind
 argument_kind (Plain (BasicType basic) quals) = integer_kind basic
 argument_kind (Plain (Pointer to) quals) = pointer_kind to
 argument_kind other = kind.Int
-
--- the arguments with these values
-abbrev pub arguments : Cores → List Value → List Arg
-arguments NoCore values = []
-arguments (MoreCores first rest) [] = []
-arguments (MoreCores first rest) (value ∷ values) =
-    record { value = value; kind = argument_kind (type_in first) } ∷ arguments rest values
