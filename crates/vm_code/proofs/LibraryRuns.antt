@@ -96,8 +96,8 @@ with_literal n handling functions instrs = record (unit functions (handlers hand
     (kind.CharPointer ∷ kind.ULong ∷ kind.CharPointer ∷ []) gives_int
     ∷ called ((n + 21) ∷ []) (form.Pointer ∷ []) (kind.OtherPointer ∷ []) form.Pointer
     ∷ called ((n + 50) ∷ []) (gives_int ∷ []) (kind.Int ∷ []) gives_int ∷ []) instrs) {
-  objects = record { bytes = codes "a" ++ 0 ∷ []; seals = record { at = 0; len = 2; mark = Literal } ∷ [] } ∷ [];
-}
+      objects = record { bytes = codes "a" ++ 0 ∷ []; seals = record { at = 0; len = 2; mark = Literal } ∷ [] } ∷ [];
+    }
 
 -- strcpy_s(0, 1, "a")
 abbrev violates : ℕ → List Instr
