@@ -3,3 +3,4 @@ pub mod Integers
 pub mod Judging
 pub mod ExampleRuns
 pub mod CallExamples
+pub mod JournalExamples
