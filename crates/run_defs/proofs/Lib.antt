@@ -4,3 +4,4 @@ pub mod Judging
 pub mod ExampleRuns
 pub mod CallExamples
 pub mod JournalExamples
+pub mod Outlines
