@@ -5,3 +5,6 @@ pub mod ExampleRuns
 pub mod CallExamples
 pub mod JournalExamples
 pub mod Outlines
+pub mod Worlds
+pub mod Following
+pub mod Starting
