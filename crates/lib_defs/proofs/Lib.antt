@@ -17,6 +17,16 @@ pub mod NamedRows
 pub mod RowsFit
 pub mod Forms
 pub mod AnnexRows
+pub mod PlainFits
+pub mod PlainMemoryLaws
+pub mod PlainTextLaws
+pub mod Flows
+pub mod NewObjects
+pub mod PrintLaws
+pub mod PlainCalls
+pub mod AllocationLaws
+pub mod StreamLaws
+pub mod ProfileLaws
 pub mod SampleLaws
 pub mod Messages
 pub mod ExampleStore
@@ -25,4 +35,5 @@ pub mod TextExamples
 pub mod TokenExamples
 pub mod OtherExamples
 pub mod FactExamples
+pub mod PrintExamples
 pub mod RowNames

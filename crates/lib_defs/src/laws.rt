@@ -9,6 +9,7 @@ ghost use Rattle.lib_defs.specs.Violations.{StandsThere};
 ghost use Rattle.lib_defs.specs.Library.{values_of};
 ghost use Rattle.lib_defs.specs.Laws.{IsSized, CallFits, KeepsLaws};
 ghost use Rattle.lib_defs.specs.RuleLaws.{RuleKeeps};
+ghost use Rattle.lib_defs.specs.Profile.{profile};
 ghost use Rattle.lib_defs.specs.Sample.{sample};
 
 /// The row that a name finds has that name, and each name finds one.
@@ -31,8 +32,13 @@ pub fn rows_law()
         → CallFits waits row args w streams (run_rule rule w.store) }
 {}
 
-/// Rows can keep the laws: there is a library of all rows of Annex K, of handlers, objects and streams, and of a row
-/// that wants a guest's function, that keeps them.
+/// The library of the profile, which has all functions with a name, keeps the laws that every library keeps: at all
+/// arguments and in all worlds.
+pub fn profile_law()
+    ensures { KeepsLaws profile }
+{}
+
+/// A row that wants a guest's function can keep them too: there is a library with one, beside those of the profile.
 pub fn sample_law()
     ensures { KeepsLaws sample }
 {}

@@ -1,0 +1,10 @@
+-- Lemmas, by topic.
+pub mod Integers
+pub mod Judging
+pub mod ExampleRuns
+pub mod CallExamples
+pub mod JournalExamples
+pub mod Outlines
+pub mod Worlds
+pub mod Following
+pub mod Starting

@@ -15,6 +15,7 @@ use Rattle.run_defs.specs.declared.attempt.Attempt.{Attempt}
 use Rattle.run_defs.specs.declared.event.Event.TheVariants.{ReachFailed, ValueFailed, Stopped, Ended}
 use Rattle.run_defs.specs.declared.outcome.Outcome.{Outcome}
 use Rattle.run_defs.specs.declared.outcome.Outcome.TheVariants.{Trapped, Undefined, OutOfTicks, OutOfBytes}
+use Rattle.run_defs.specs.Outcomes.{end_of}
 use Rattle.run_defs.specs.State.{State, logged, with_storage, made, patched}
 
 -- a value and the state after it; or the run stops, in this state
@@ -90,4 +91,4 @@ call_entered s = bind (within 256 s) (λ u s1. Gives tt (with_storage (with_call
 
 -- the run is over: its last event
 abbrev pub finished : Outcome → State → State
-finished outcome s = logged (Ended outcome) s
+finished outcome s = logged (Ended (end_of outcome)) s

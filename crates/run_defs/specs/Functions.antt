@@ -1,11 +1,11 @@
 -- The functions of a program, as far as a library call knows them, and values as a line shows them.
-use Rattle.std.specs.Prelude.{ℕ, ◌-◌, nat_lt, Bool, true, false, ℤ, List, [], ◌∷◌, take, Option, Some, None}
+use Rattle.std.specs.Prelude.{ℕ, ◌-◌, nat_lt, Bool, true, List, [], take, Option, Some, None}
 use Rattle.std.specs.Prelude.{if◌then◌else◌}
 use Rattle.std.specs.Option.{option_map_or}
 use Rattle.object_store.specs.declared.pointer.Pointer.{Pointer}
 use Rattle.lib_defs.specs.declared.row.Row.{Row}
 use Rattle.lib_defs.specs.declared.shown.Shown.{Shown}
-use Rattle.lib_defs.specs.declared.shown.Shown.TheVariants.{Number, Function as FunctionShown, Place, NoValue}
+use Rattle.lib_defs.specs.declared.shown.Shown.TheVariants.{Number, Function as FunctionShown, NoValue}
 use Rattle.lib_defs.specs.declared.value.Value.{Value}
 use Rattle.lib_defs.specs.declared.value.Value.TheVariants.{Num, Ptr, Nothing}
 use Rattle.lib_defs.specs.Names.{name_text}

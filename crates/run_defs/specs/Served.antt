@@ -1,14 +1,11 @@
 -- A library call, up to where a function of the unit is wanted. The meaning and the machine both cite it.
-use Rattle.std.specs.Prelude.{ℕ, zero, suc, Bool, true, false, not, ◌&&◌, pos as positive, List, [], ◌∷◌, map}
-use Rattle.std.specs.Prelude.{Option, Some, None, is_none, if◌then◌else◌}
-use Rattle.std.specs.Option.{option_map_or}
+use Rattle.std.specs.Prelude.{ℕ, Bool, true, false, not, ◌&&◌, List, [], ◌∷◌}
+use Rattle.std.specs.Prelude.{Option, Some, None, is_none}
 use Rattle.critical_table.specs.declared.case.Case.TheVariants.{L3, L6, L9}
 use Rattle.critical_table.specs.declared.pos.Pos.{Pos}
 use Rattle.object_store.specs.declared.class.Class.TheVariants.{Allocated}
 use Rattle.object_store.specs.declared.pointer.Pointer.{Pointer}
 use Rattle.lib_defs.specs.declared.row.Row.{Row}
-use Rattle.lib_defs.specs.declared.row_name.RowName.{RowName}
-use Rattle.lib_defs.specs.declared.row_name.RowName.TheVariants as n
 use Rattle.lib_defs.specs.declared.shown.Shown.TheVariants.{Function as FunctionShown}
 use Rattle.lib_defs.specs.declared.step.Rest.{Rest}
 use Rattle.lib_defs.specs.declared.value.Arg.{Arg}
@@ -17,7 +14,6 @@ use Rattle.lib_defs.specs.declared.value.Value.{Value}
 use Rattle.lib_defs.specs.declared.value.Value.TheVariants.{Num, Ptr}
 use Rattle.lib_defs.specs.declared.violation.Violation.{Violation}
 use Rattle.lib_defs.specs.Violations.{errno_of, message_place}
-use Rattle.lib_defs.specs.RowNumbers.{name_at}
 use Rattle.lib_defs.specs.Reply.{Fill, Change, Stop, FailsReach, FailsValue, FailsArgument, IsUndefined, Ends, Did, Done}
 use Rattle.lib_defs.specs.Reply.{Broken, Asks, Fails, patch_of, null}
 use Rattle.lib_defs.specs.Columns.{is_null}
@@ -31,11 +27,12 @@ use Rattle.run_defs.specs.declared.library_call.LibraryCall.{LibraryCall}
 use Rattle.run_defs.specs.declared.library_call.Suspended.{Suspended}
 use Rattle.run_defs.specs.declared.library_call.Waits.{Waits}
 use Rattle.run_defs.specs.declared.library_call.Waits.TheVariants.{ForHandler, ForFunction}
-use Rattle.run_defs.specs.declared.outcome.Outcome.TheVariants.{Trapped, OutOfTicks}
+use Rattle.run_defs.specs.declared.outcome.Outcome.TheVariants.{Trapped}
 use Rattle.run_defs.specs.Outcomes.{row_outcome}
 use Rattle.run_defs.specs.State.{State, logged, with_streams, made, died, patched, all_patched, handler_set}
 use Rattle.run_defs.specs.Evaluation.{Evaluation, Gives, Stops, bind, fails_reach, fails_value, undefined, ticked}
-use Rattle.run_defs.specs.Functions.{Function, OfLibrary, OfUnit, Environment, function_number, function_at, function_name}
+use Rattle.run_defs.specs.RowKinds.{is_setter}
+use Rattle.run_defs.specs.Functions.{Function, OfUnit, Environment, function_number, function_at, function_name}
 use Rattle.run_defs.specs.Functions.{value_shown, handler_name, Handles, ByUnit, ByLibrary, OfOtherType, handles}
 
 -- The call has this value. Or a function of the unit, by its number, is wanted with these arguments: the tick of its
@@ -104,7 +101,7 @@ pub record Failure : Type 0 where
 abbrev pub handled : Environment → LibraryCall → Failure → Handles → State → Evaluation Served
 handled e call failure ByUnit s =
     Gives (Wants (function_number s.world.handler.current) (values_of (told failure.class))
-        (record { call = call; waits = ForHandler failure.constraint failure.value }))
+    (record { call = call; waits = ForHandler failure.constraint failure.value }))
     (logged (HandlerCalled (handler_name e s.world.handler.current)) s)
 handled e call failure (ByLibrary row) s =
     row_handled e call failure.value (e.library.call row (told failure.class) s.world).did
@@ -144,13 +141,6 @@ abbrev pub replied : Environment → LibraryCall → Reply → State → Evaluat
 replied e call reply s = served e call reply.did (with_streams reply.streams s)
 
 -- set_constraint_handler_s with what is neither null nor a function of the program
-abbrev pub is_setter_name : RowName → Bool
-is_setter_name n.SetConstraintHandlerS = true
-is_setter_name _ = false
-
-abbrev pub is_setter : Row → Bool
-is_setter row = option_map_or is_setter_name (name_at row) false
-
 abbrev pub sets_no_function : Environment → Row → Pointer → Bool
 sets_no_function e row p = is_setter row && (not (is_null p) && is_none (function_at e p))
 

@@ -5,7 +5,7 @@ use Rattle.object_store.specs.declared.mark.Mark.TheVariants.{Literal}
 use Rattle.object_store.specs.declared.pointer.Pointer.{Pointer}
 use Rattle.object_store.specs.Steps.{next_number}
 use Rattle.object_store.specs.Messages.{message_bytes}
-use Rattle.lib_defs.specs.World.{Input, World}
+use Rattle.lib_defs.specs.World.{Input}
 use Rattle.run_defs.specs.declared.seal.Seal.{Seal}
 use Rattle.run_defs.specs.State.{State, static_made, sealed}
 use Rattle.run_defs.specs.Evaluation.{Evaluation, Gives, bind, within}

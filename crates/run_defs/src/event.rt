@@ -1,6 +1,6 @@
 //! The events of a run.
 use crate::attempt::Attempt;
-use crate::outcome::Outcome;
+use crate::outcome::End;
 use crate::seal::Seal;
 use crate::values::Values;
 use critical_table::{Case, Code, Pos};
@@ -71,5 +71,5 @@ pub enum Event {
         pos: Pos,
     },
     /// The run ends: the last event.
-    Ended(Outcome),
+    Ended(End),
 }

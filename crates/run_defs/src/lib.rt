@@ -6,15 +6,20 @@
 
 pub mod attempt;
 pub mod event;
+pub mod journal;
+pub mod laws;
 pub mod library_call;
+pub mod line_text;
 pub mod outcome;
+mod parts;
 pub mod seal;
-
 pub mod values;
 
 pub use attempt::Attempt;
 pub use event::Event;
-pub use outcome::Outcome;
-pub use seal::Seal;
+pub use journal::{Journal, LineJournal, NoJournal};
 pub use library_call::{LibraryCall, Suspended, Waits};
+pub use line_text::event_line;
+pub use outcome::{End, Outcome};
+pub use seal::Seal;
 pub use values::Values;

@@ -1,6 +1,6 @@
 //! How a run ends.
 ghost use Rattle.std.specs.Prelude.{◌≡◌};
-ghost use Rattle.run_defs.specs.Outcomes.{ended_of};
+ghost use Rattle.run_defs.specs.Outcomes.{ended_of, end_of};
 
 use critical_table::{Case, Code, Ended, Pos};
 
@@ -23,7 +23,41 @@ pub enum Outcome {
     ReadFault,
 }
 
+/// What the last line of a journal shows of an outcome: all but the place.
+#[derive(Clone, Copy, Debug, PartialEq, Eq)]
+pub enum End {
+    /// With this status.
+    Exited(u8),
+    /// By `abort` or by the abort handler.
+    Aborted,
+    /// By a critical undefined behaviour.
+    Trapped(Case),
+    /// By another undefined behaviour.
+    Undefined(Code),
+    /// For want of a tick.
+    OutOfTicks,
+    /// For want of bytes.
+    OutOfBytes,
+    /// By a read of a broken input.
+    ReadFault,
+}
+
 impl Outcome {
+    /// What the last line shows of it.
+    pub fn end(self) -> End
+        ensures { result ≡ end_of self }
+    {
+        match self {
+            Outcome::Exited(status) => End::Exited(status),
+            Outcome::Aborted => End::Aborted,
+            Outcome::Trapped(case, _) => End::Trapped(case),
+            Outcome::Undefined(code, _) => End::Undefined(code),
+            Outcome::OutOfTicks => End::OutOfTicks,
+            Outcome::OutOfBytes => End::OutOfBytes,
+            Outcome::ReadFault => End::ReadFault,
+        }
+    }
+
     /// The end of a command that such a run is.
     pub fn ended(self) -> Ended
         ensures { result ≡ ended_of self }

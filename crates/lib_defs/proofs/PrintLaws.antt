@@ -1,0 +1,161 @@
+-- The functions that read a text and write it stop as the laws say.
+use Rattle.std.proofs.Common.{◌≡◌, ℕ, zero, suc, ◌+◌, ◌<◌, ◌≤◌, Bool, true, false, cond, List, [], ◌∷◌, length, Option, Some, None}
+use Rattle.std.proofs.Common.{refl, arith}
+use Rattle.std.specs.Prelude.{ℤ, pos, nat_le, ◌-ℤ◌, ◌%◌, unwrap_or}
+use Rattle.std.proofs.lemmas.Int.{ints}
+use Rattle.std.proofs.lemmas.Grind.{common_steps}
+use Rattle.acc_num.specs.declared.kind.IntKind.TheVariants.{I32}
+use Rattle.acc_num.specs.Operations.{converted_to}
+use Rattle.critical_table.specs.declared.code.Code.TheVariants.{U09}
+use Rattle.object_store.specs.declared.pointer.Pointer.{Pointer}
+use Rattle.object_store.specs.Storage.{Storage}
+use Rattle.object_store.specs.Steps.{bytes_at}
+use Rattle.object_store.specs.Load.{known_number}
+use Rattle.object_store.specs.declared.by.By.TheVariants.{OtherRead}
+use Rattle.lib_defs.specs.PlainMemory.{see_known}
+use Rattle.lib_defs.specs.declared.value.Arg.{Arg}
+use Rattle.lib_defs.specs.declared.value.Value.TheVariants.{Num}
+use Rattle.lib_defs.specs.Units.{unit_place}
+use Rattle.lib_defs.specs.Reply.{Stop, FailsReach, FailsValue, FailsArgument, IsUndefined, Ends}
+use Rattle.lib_defs.specs.Constraints.{Look, Saw, Stuck}
+use Rattle.lib_defs.specs.Prototypes.{IsGiven, int}
+use Rattle.lib_defs.specs.Characters.{Characters, character_then, characters_at, see_character, whole_by, whole}
+use Rattle.lib_defs.specs.Conversions.{Specification, Conversion, Percent, Signed, Unsigned, Character, String}
+use Rattle.lib_defs.specs.Conversions.{Bare, conversion_of, Piece, Ordinary, Specified, Unfinished, pieces_within}
+use Rattle.lib_defs.specs.Printed.{text_or, map_number, string_text, padded_string, argument_text, write_then}
+use Rattle.lib_defs.specs.Printed.{convert_then, pieces_text, printed, most_of, number_for, text_for, signed_kind, unsigned_kind}
+use Rattle.lib_defs.specs.RuleLaws.{RuleStop}
+use Rattle.lib_defs.proofs.PlainFits.{Sees, sees_known, sees_range}
+
+abbrev pub AnyText : List ℕ → Type 0
+AnyText text = Unit {0}
+
+abbrev pub Stops : (Stop → Type 0) → Option Stop → Type 0
+Stops P None = Unit {0}
+Stops P (Some stop) = P stop
+
+-- how many characters were written, as an int
+represented_given : (m : ℕ) (small : Bool) → m < 4294967296 → nat_le m 2147483647 ≡ small
+    → IsGiven int (Num (cond small (pos m) (pos m -ℤ pos 4294967296)))
+represented_given m true less e =
+    let le : m ≤ 2147483647 = grind (arith, common_steps, e) in
+    record { least = omega (arith, ints, le); greatest = omega (arith, ints, le) }
+represented_given m false less e =
+    let more : 2147483647 < m = grind (arith, common_steps, e) in
+    record { least = omega (arith, ints, less, more); greatest = omega (arith, ints, less, more) }
+
+pub count_given : (n : ℕ) → IsGiven int (Num (converted_to I32 (pos n)))
+unfolding converted_to
+count_given n = represented_given (n % 4294967296) _ (omega arith) refl
+
+module _ (s : Storage) where
+  -- characters that are read
+  character_stops : (seen : Look ℕ) → Sees (λ (c : ℕ). Unit {0}) s seen → (rest : Unit {0} → Characters)
+      → Stops (RuleStop s) (rest tt).stop → Stops (RuleStop s) (character_then seen rest).stop
+  character_stops (Stuck stop) h rest r = h
+  character_stops (Saw zero) h rest r = tt
+  character_stops (Saw (suc c)) h rest r = r
+
+  pub characters_stop : (p : Pointer) (most : ℕ) → Stops (RuleStop s) (characters_at s p most).stop
+  characters_stop p zero = tt
+  characters_stop p (suc most) =
+      character_stops (see_character s p)
+      (sees_range (λ (c : ℕ). Unit {0}) s p 1 1 OtherRead (see_known (known_number (bytes_at s p 1)))
+      (sees_known s (known_number (bytes_at s p 1))))
+      (λ u. characters_at s (unit_place 1 p 1) most) (characters_stop (unit_place 1 p 1) most)
+
+  whole_sees_by : (list : List ℕ) (stop : Option Stop) → Stops (RuleStop s) stop → Sees AnyText s (whole_by list stop)
+  whole_sees_by list None h = tt
+  whole_sees_by list (Some stop) h = h
+
+  pub whole_sees : (p : Pointer) (most : ℕ) → Sees AnyText s (whole (characters_at s p most))
+  whole_sees p most = whole_sees_by _ _ (characters_stop p most)
+
+  -- a stop of printf: that of any row, or of an argument behind its format
+  abbrev pub PrintStop : Stop → Type 0
+  PrintStop (FailsArgument number) = 2 ≤ number
+  PrintStop stop = RuleStop s stop
+
+  print_stop : (stop : Stop) → RuleStop s stop → PrintStop stop
+  print_stop (FailsReach case place len align by) h = h
+  print_stop (FailsValue case value) h = h
+  print_stop (FailsArgument number) h = absurd h
+  print_stop (IsUndefined code) h = h
+  print_stop (Ends ended) h = h
+
+  abbrev Prints : Look (List ℕ) → Type 0
+  Prints (Saw text) = Unit {0}
+  Prints (Stuck stop) = PrintStop stop
+
+  text_prints : (k : ℕ) → 2 ≤ k → (text : ℤ → List ℕ) (found : Option ℤ) → Prints (text_or k (map_number text found))
+  text_prints k more text None = more
+  text_prints k more text (Some n) = tt
+
+  padded_prints : (c : Specification) (seen : Look (List ℕ)) → Sees AnyText s seen → Prints (padded_string c seen)
+  padded_prints c (Saw text) h = tt
+  padded_prints c (Stuck stop) h = print_stop stop h
+
+  string_prints : (c : Specification) (k : ℕ) → 2 ≤ k → (found : Option Pointer) → Prints (string_text s c k found)
+  string_prints c k more None = more
+  string_prints c k more (Some p) = padded_prints c _ (whole_sees p (most_of c.precision))
+
+  argument_prints : (conversion : Conversion) (c : Specification) (k : ℕ) → 2 ≤ k → (a : Arg)
+      → Prints (argument_text s conversion c k a)
+  argument_prints Percent c k more a = tt
+  argument_prints Signed c k more a = text_prints k more _ (number_for c.modifier (signed_kind c.modifier) a)
+  argument_prints (Unsigned base upper) c k more a =
+      text_prints k more _ (number_for c.modifier (unsigned_kind c.modifier) a)
+  argument_prints Character c k more a = text_prints k more _ (number_for Bare I32 a)
+  argument_prints String c k more a = string_prints c k more (text_for a.kind a.value)
+
+  write_stops : (seen : Look (List ℕ)) (go : Unit {0} → Characters) → Prints seen → Stops PrintStop (go tt).stop
+      → Stops PrintStop (write_then seen go).stop
+  write_stops (Saw text) go h r = r
+  write_stops (Stuck stop) go h r = h
+
+  -- a conversion that takes an argument
+  abbrev Goes : (ℕ → List Arg → Characters) → Type 0
+  Goes go = (k : ℕ) → 2 ≤ k → (args : List Arg) → Stops PrintStop (go k args).stop
+
+  takes_stops : (conversion : Conversion) (c : Specification) (k : ℕ) → 2 ≤ k → (a : Arg) (args : List Arg)
+      (go : ℕ → List Arg → Characters) → Goes go
+      → Stops PrintStop (write_then (argument_text s conversion c k a) (λ u. go (k + 1) args)).stop
+  takes_stops conversion c k more a args go r =
+      write_stops (argument_text s conversion c k a) (λ u. go (k + 1) args) (argument_prints conversion c k more a)
+      (r (k + 1) (omega (arith, more)) args)
+
+  convert_stops : (found : Option Conversion) (c : Specification) (k : ℕ) → 2 ≤ k → (args : List Arg)
+      (go : ℕ → List Arg → Characters) → Goes go → Stops PrintStop (convert_then s found c k args go).stop
+  convert_stops None c k more args go r = refl
+  convert_stops (Some Percent) c k more args go r = r k more args
+  convert_stops (Some Signed) c k more [] go r = more
+  convert_stops (Some (Unsigned base upper)) c k more [] go r = more
+  convert_stops (Some Character) c k more [] go r = more
+  convert_stops (Some String) c k more [] go r = more
+  convert_stops (Some Signed) c k more (a ∷ args) go r = takes_stops Signed c k more a args go r
+  convert_stops (Some (Unsigned base upper)) c k more (a ∷ args) go r =
+      takes_stops (Unsigned base upper) c k more a args go r
+  convert_stops (Some Character) c k more (a ∷ args) go r = takes_stops Character c k more a args go r
+  convert_stops (Some String) c k more (a ∷ args) go r = takes_stops String c k more a args go r
+
+  -- the end of a format
+  end_stops : (end : Option Stop) → Stops (RuleStop s) end → Stops PrintStop end
+  end_stops None h = tt
+  end_stops (Some stop) h = print_stop stop h
+
+  unfinished_stops : (end : Option Stop) → Stops (RuleStop s) end → PrintStop (unwrap_or end (IsUndefined U09))
+  unfinished_stops None h = refl
+  unfinished_stops (Some stop) h = print_stop stop h
+
+  pieces_stop : (end : Option Stop) → Stops (RuleStop s) end → (pieces : List Piece) (k : ℕ) → 2 ≤ k → (args : List Arg)
+      → Stops PrintStop (pieces_text s end pieces k args).stop
+  pieces_stop end h [] k more args = end_stops end h
+  pieces_stop end h (Ordinary c ∷ pieces) k more args = pieces_stop end h pieces k more args
+  pieces_stop end h (Unfinished ∷ pieces) k more args = unfinished_stops end h
+  pieces_stop end h (Specified c ∷ pieces) k more args =
+      convert_stops (conversion_of c) c k more args (λ j rest. pieces_text s end pieces j rest)
+      (λ j behind rest. pieces_stop end h pieces j behind rest)
+
+  pub printed_stops : (format : Characters) → Stops (RuleStop s) format.stop → (args : List Arg)
+      → Stops PrintStop (printed s format args).stop
+  printed_stops format h args = pieces_stop format.stop h (pieces_within (length format.list) format.list) 2 (omega arith) args
