@@ -11,6 +11,7 @@ use Rattle.lib_defs.specs.Sample.{sample}
 use Rattle.run_defs.specs.declared.event.Event.{Event}
 use Rattle.run_defs.specs.declared.event.Event.TheVariants.{Ended, Stored, Made, Died}
 use Rattle.run_defs.specs.declared.outcome.Outcome.{Outcome}
+use Rattle.run_defs.specs.Outcomes.{end_of}
 use Rattle.run_defs.specs.Evaluation.{finished}
 use Rattle.run_defs.specs.Starts.{Budgets}
 use Rattle.c_core.specs.declared.form.Form.{Form}
@@ -133,7 +134,7 @@ abbrev pub writes : List ℕ → Outcome → List Event → (ticks instructions 
 writes output outcome events ticks instructions = Some (record {
   outcome = outcome;
   output = output;
-  events = events ++ Ended outcome ∷ [];
+  events = events ++ Ended (end_of outcome) ∷ [];
   ticks = ticks;
   instructions = instructions;
 })
