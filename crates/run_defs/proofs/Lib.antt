@@ -3,3 +3,8 @@ pub mod Integers
 pub mod Judging
 pub mod ExampleRuns
 pub mod CallExamples
+pub mod JournalExamples
+pub mod Outlines
+pub mod Worlds
+pub mod Following
+pub mod Starting

@@ -3,3 +3,4 @@ mod OperandRuns
 mod ObjectRuns
 mod CallRuns
 mod LibraryRuns
+pub mod Fronts

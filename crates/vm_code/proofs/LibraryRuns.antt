@@ -13,13 +13,11 @@ use Rattle.object_store.specs.Reach.{reach_table}
 use Rattle.object_store.specs.Storage.{live_bytes}
 use Rattle.lib_defs.specs.declared.row.Row.{Row}
 use Rattle.lib_defs.specs.declared.shown.Shown.TheVariants.{Number, Function, Place, NoValue}
-use Rattle.lib_defs.specs.declared.value.Arg.{Arg}
 use Rattle.lib_defs.specs.declared.value.ArgKind.TheVariants as kind
-use Rattle.lib_defs.specs.Reply.{Asks, Done, no_change, null}
-use Rattle.lib_defs.specs.Laws.{first_pointer}
+use Rattle.lib_defs.specs.Reply.{null}
+use Rattle.lib_defs.specs.Spans.{span}
 use Rattle.lib_defs.specs.Library.{Library}
-use Rattle.lib_defs.specs.Sample.{sample, rest_of}
-use Rattle.lib_defs.specs.StreamRows.{reply_with}
+use Rattle.lib_defs.specs.Sample.{sample, ask_reply}
 use Rattle.lib_defs.specs.World.{Input, AtEnd, Broken}
 use Rattle.run_defs.specs.declared.event.Event.{Event}
 use Rattle.run_defs.specs.declared.event.Event.TheVariants as e
@@ -97,8 +95,8 @@ with_literal n handling functions instrs = record (unit functions (handlers hand
     (kind.CharPointer ∷ kind.ULong ∷ kind.CharPointer ∷ []) gives_int
     ∷ called ((n + 21) ∷ []) (form.Pointer ∷ []) (kind.OtherPointer ∷ []) form.Pointer
     ∷ called ((n + 50) ∷ []) (gives_int ∷ []) (kind.Int ∷ []) gives_int ∷ []) instrs) {
-  objects = record { bytes = codes "a" ++ 0 ∷ []; seals = record { at = 0; len = 2; mark = Literal } ∷ [] } ∷ [];
-}
+      objects = record { bytes = codes "a" ++ 0 ∷ []; seals = record { at = 0; len = 2; mark = Literal } ∷ [] } ∷ [];
+    }
 
 -- strcpy_s(0, 1, "a")
 abbrev violates : ℕ → List Instr
@@ -124,7 +122,7 @@ failure = e.HandlerReturned ∷ e.Returned strcpy_s (Number (pos 22)) ∷ []
 -- the default handler aborts
 aborts : seen_of (with_literal 1 [] [] (violates 1 ++ i.Give ∷ []))
     ≡ ends o.Aborted (literal_made ++ violation ++ e.HandlerCalled (codes "abort_handler_s") ∷ []) 7 5
-unfolding message_bytes live_bytes reach_table
+unfolding message_bytes live_bytes reach_table span
 aborts = refl
 
 -- ignore_handler_s returns, and the call gives 22
@@ -187,8 +185,8 @@ sets_no_function = refl
 -- each row calls the function that its first argument points to, and has its value
 abbrev asking : Library
 asking = record {
-  call = λ row args w. reply_with w (Asks (first_pointer args) null null null (rest_of row));
-  resume = λ rest value w. reply_with w (Done no_change None value);
+  call = ask_reply;
+  resume = sample.resume;
 }
 
 -- int c(const void *a, const void *b, void *x){return 5;}

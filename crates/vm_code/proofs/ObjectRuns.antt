@@ -105,8 +105,8 @@ copies : seen_of (alone (i.Make 0 2 ∷ i.Make 1 2 ∷ i.Slot 0 ∷ i.Zero 2 ∷
 unfolding message_bytes live_bytes reach_table load_integer
 copies = refl
 
-overlaps : seen_of (alone (i.Make 0 4 ∷ i.Slot 0 ∷ i.Zero 4 ∷ i.Slot 0 ∷ i.Member 1 ∷ i.Slot 0 ∷ i.Copy 2 ∷ i.Give ∷ []))
-    ≡ ends (o.Undefined U10 (here 6)) (made 4 4 ∷ wrote 4 0 4 ∷ e.Stopped U10 (here 6) ∷ []) 8 7
+overlaps : seen_of (alone (i.Make 0 4 ∷ i.Slot 0 ∷ i.Zero 4 ∷ i.Slot 0 ∷ i.Member 1 ∷ i.Slot 0 ∷ i.Copy 2 ∷ i.Give
+    ∷ [])) ≡ ends (o.Undefined U10 (here 6)) (made 4 4 ∷ wrote 4 0 4 ∷ e.Stopped U10 (here 6) ∷ []) 8 7
 unfolding message_bytes live_bytes reach_table
 overlaps = refl
 
@@ -135,14 +135,14 @@ unfolding message_bytes live_bytes
 moves_before = refl
 
 -- a member array of four bytes behind the first four has its own bounds
-bounds_member : seen_of (alone (i.Make 0 8 ∷ i.Slot 0 ∷ i.Member 4 ∷ i.Narrow 4 ∷ int 1 ∷ back 4 ∷ i.IsNull ∷ i.Give ∷ []))
-    ≡ ends (o.Undefined U06 (here 5)) (made 4 8 ∷ e.Stopped U06 (here 5) ∷ []) 8 6
+bounds_member : seen_of (alone (i.Make 0 8 ∷ i.Slot 0 ∷ i.Member 4 ∷ i.Narrow 4 ∷ int 1 ∷ back 4 ∷ i.IsNull ∷ i.Give
+    ∷ [])) ≡ ends (o.Undefined U06 (here 5)) (made 4 8 ∷ e.Stopped U06 (here 5) ∷ []) 8 6
 unfolding message_bytes live_bytes
 bounds_member = refl
 
 -- (&a[4] > a) + (a == 0) + (a == a)
-compares_pointers : seen_of (alone (i.Make 0 8 ∷ i.Slot 0 ∷ i.Member 4 ∷ i.Slot 0 ∷ i.Order Greater ∷ i.Slot 0 ∷ i.IsNull
-    ∷ with op.Add ∷ i.Slot 0 ∷ i.Slot 0 ∷ i.Same ∷ with op.Add ∷ i.Give ∷ []))
+compares_pointers : seen_of (alone (i.Make 0 8 ∷ i.Slot 0 ∷ i.Member 4 ∷ i.Slot 0 ∷ i.Order Greater ∷ i.Slot 0
+    ∷ i.IsNull ∷ with op.Add ∷ i.Slot 0 ∷ i.Slot 0 ∷ i.Same ∷ with op.Add ∷ i.Give ∷ []))
     ≡ ends (o.Exited 2) (made 4 8 ∷ died 4 ∷ []) 8 13
 unfolding message_bytes live_bytes operator_outcome value_of
 compares_pointers = refl

@@ -15,7 +15,8 @@ use Rattle.c_core.specs.Operations.{operator_outcome, negation, complement}
 use Rattle.vm_code.specs.declared.instr.Instr.TheVariants as i
 use Rattle.vm_code.specs.Contents.{Contents}
 use Rattle.vm_code.specs.Frames.{Stuck}
-use Rattle.vm_code.proofs.RunWords.{here, int, with, alone, seen, seen_of, place_of_run, budgets, no_input, ends, load_int}
+use Rattle.vm_code.proofs.RunWords.{here, int, with, load_int, alone, seen, seen_of, place_of_run, budgets, no_input}
+use Rattle.vm_code.proofs.RunWords.{ends}
 use Rattle.lib_defs.specs.Sample.{sample}
 
 -- int main(void){return 0;}

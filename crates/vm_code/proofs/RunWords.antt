@@ -12,6 +12,7 @@ use Rattle.run_defs.specs.declared.event.Event.{Event}
 use Rattle.run_defs.specs.declared.event.Event.TheVariants.{Ended, Stored, Made, Died}
 use Rattle.run_defs.specs.Outcomes.{end_of}
 use Rattle.run_defs.specs.declared.outcome.Outcome.{Outcome}
+use Rattle.run_defs.specs.Outcomes.{end_of}
 use Rattle.run_defs.specs.Evaluation.{finished}
 use Rattle.run_defs.specs.Starts.{Budgets}
 use Rattle.c_core.specs.declared.form.Form.{Form}

@@ -12,7 +12,8 @@ use Rattle.lib_defs.specs.Reply.{null}
 use Rattle.run_defs.specs.declared.attempt.Attempt.{Attempt}
 use Rattle.run_defs.specs.State.{State, patched}
 use Rattle.run_defs.specs.Evaluation.{Evaluation, Gives, bind, undefined, reached}
-use Rattle.run_defs.specs.Loads.{pointer_size, pointer_align, read_attempt, number_loaded, pointer_loaded, number_stored, pointer_stored}
+use Rattle.run_defs.specs.Loads.{pointer_size, pointer_align, read_attempt, number_loaded, pointer_loaded}
+use Rattle.run_defs.specs.Loads.{number_stored, pointer_stored}
 use Rattle.c_core.specs.declared.form.Scalar.{Scalar}
 use Rattle.c_core.specs.declared.form.Scalar.TheVariants as scalar
 use Rattle.c_core.specs.declared.form.Content.{Content}

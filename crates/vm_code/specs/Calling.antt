@@ -115,11 +115,12 @@ row_left v = v ∷ []
 abbrev pub replied : Contents → Evaluation Served → List Frame → (Value → State → Place) → Place
 replied code (Stops outcome s) frames next = Ends outcome s
 replied code (Gives (Answers v) s) frames next = next v s
-replied code (Gives (Wants function arguments call) s) frames next = entered code
-    (record { function = function; arguments = arguments; result = null; pos = call.call.pos }) (Waiting call ∷ frames) s
+replied code (Gives (Wants function arguments call) s) frames next =
+    entered code (record { function = function; arguments = arguments; result = null; pos = call.call.pos })
+    (Waiting call ∷ frames) s
 
--- A call has returned to these frames: with a value, or Nothing, and with what it leaves on the stack of a function. The
--- return of `main` ends the run; without a value its status is 0 (5.1.2.2.3).
+-- A call has returned to these frames: with a value, or Nothing, and with what it leaves on the stack of a function.
+-- The return of `main` ends the run; without a value its status is 0 (5.1.2.2.3).
 abbrev pub returned : Environment → Contents → (left : List Value) → Value → List Frame → State → Place
 returned e code left v [] s = Ends (Exited (modulo_byte (number_in v))) s
 returned e code left v (Active a ∷ frames) s =
@@ -153,7 +154,8 @@ compatible_if false e code f called entry frames s =
 compatible_if true e code f called entry frames s =
     after (ticked s) (λ u s1. row_called e code f called entry frames s1)
 
-abbrev pub called_at : Option Function → Environment → Contents → Pointer → CodeCalled → Entry → List Frame → State → Place
+abbrev pub called_at : Option Function → Environment → Contents → Pointer → CodeCalled → Entry → List Frame → State
+    → Place
 called_at None e code p called entry frames s =
     stops (fails_value L6 (value_shown e (Ptr p)) entry.pos s)
 called_at (Some f) e code p called entry frames s =

@@ -1,6 +1,6 @@
 -- The functions of code by number: those of the unit from 1 on, then the library functions.
-use Rattle.std.specs.Prelude.{ℕ, zero, suc, ◌+◌, ◌-◌, ◌==◌, ◌&&◌, nat_lt, Bool, false, List, [], ◌∷◌, length, Option, Some, None}
-use Rattle.std.specs.Prelude.{codes, if◌then◌else◌}
+use Rattle.std.specs.Prelude.{ℕ, zero, suc, ◌+◌, ◌-◌, ◌==◌, ◌&&◌, nat_lt, Bool, false, List, [], ◌∷◌, length}
+use Rattle.std.specs.Prelude.{Option, Some, None, codes, if◌then◌else◌}
 use Rattle.std.specs.List.{slice_get, list_any}
 use Rattle.std.specs.Option.{option_map_or}
 use Rattle.std.specs.Str.{bytes_eq}
@@ -83,3 +83,8 @@ end_from start (f ∷ fs) end =
 
 abbrev pub end_of : Contents → CodeFunction → ℕ
 end_of code function = end_from function.start code.functions (length code.instrs)
+
+-- the least start
+abbrev pub first_start : List CodeFunction → ℕ → ℕ
+first_start [] end = end
+first_start (f ∷ fs) end = first_start fs (if nat_lt f.start end then f.start else end)

@@ -8,3 +8,7 @@ pub mod Frames
 pub mod CodeFunctions
 pub mod Calling
 pub mod Machine
+pub mod OperandKinds
+pub mod Sound
+pub mod Ways
+pub mod Valid

@@ -1,6 +1,6 @@
 -- The machine: what each instruction does, and a run.
-use Rattle.std.specs.Prelude.{◌≡◌, ℕ, zero, suc, ◌+◌, ◌-ℤ◌, ◌&&◌, nat_lt, nat_le, Bool, true, false, ℤ, List, [], ◌∷◌, length}
-use Rattle.std.specs.Prelude.{map, replicate, Option, Some, None, if◌then◌else◌}
+use Rattle.std.specs.Prelude.{◌≡◌, ℕ, zero, suc, ◌+◌, ◌-ℤ◌, ◌&&◌, nat_lt, nat_le, Bool, true, false, ℤ, List, [], ◌∷◌}
+use Rattle.std.specs.Prelude.{length, map, replicate, Option, Some, None, if◌then◌else◌}
 use Rattle.std.specs.List.{slice_get}
 use Rattle.acc_num.specs.Operations.{is_zero, converted_to}
 use Rattle.critical_table.specs.declared.code.Code.TheVariants.{U04}
@@ -20,6 +20,7 @@ use Rattle.run_defs.specs.declared.attempt.Attempt.{Attempt}
 use Rattle.run_defs.specs.declared.outcome.Outcome.{Outcome}
 use Rattle.run_defs.specs.State.{State, sealed, died, patched}
 use Rattle.run_defs.specs.Evaluation.{Evaluation, Gives, bind, undefined, ticked, reached, stored, automatic_made}
+use Rattle.run_defs.specs.Evaluation.{finished}
 use Rattle.run_defs.specs.Functions.{Environment, function_number}
 use Rattle.run_defs.specs.Loads.{found, known}
 use Rattle.run_defs.specs.Starts.{Budgets, StaticObject, start_state, statics_placed}
@@ -308,9 +309,12 @@ started library code budgets input =
     after (statics_placed (map static_of code.objects) (start_state budgets input (abort_handler code))) (λ u s.
     main_called (environment library code) code (main_function code) s)
 
--- The run of code over an input, within budgets: its outcome, the state at its end, and how many instructions began.
+-- The run of code over an input, within budgets: its outcome, the state behind its last event, and how many
+-- instructions began.
 pub record RunsTo (library : Library) (code : Contents) (budgets : Budgets) (input : Input) (outcome : Outcome)
     (s : State) (instructions : ℕ) : Type 0 where
-  pub ends : run (environment library code) code (started library code budgets input) instructions ≡ Ends outcome s
+  pub before : State
+  pub ends : run (environment library code) code (started library code budgets input) instructions ≡ Ends outcome before
+  pub last : s ≡ finished outcome before
   pub all_begin :
       begun_count (environment library code) code (started library code budgets input) instructions ≡ instructions

@@ -9,6 +9,7 @@ pub mod instr;
 pub mod parts;
 pub mod reading;
 pub mod sequence;
+pub mod valid_code;
 
 pub use c_core::Form;
 pub use code::Code;
@@ -16,6 +17,7 @@ pub use instr::Instr;
 pub use parts::{CodeCalled, CodeFunction, CodeObject, Parameter};
 pub use run_defs::Seal;
 pub use sequence::Sequence;
+pub use valid_code::ValidCode;
 
 #[cfg(test)]
 mod tests;
