@@ -12,3 +12,5 @@ pub mod Calls
 pub mod StaticContents
 pub mod Meaning
 pub mod Law
+pub mod CalledTypes
+pub mod ExpressionCode

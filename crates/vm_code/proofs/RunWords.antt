@@ -10,7 +10,6 @@ use Rattle.lib_defs.specs.Library.{Library}
 use Rattle.lib_defs.specs.Sample.{sample}
 use Rattle.run_defs.specs.declared.event.Event.{Event}
 use Rattle.run_defs.specs.declared.event.Event.TheVariants.{Ended, Stored, Made, Died}
-use Rattle.run_defs.specs.Outcomes.{end_of}
 use Rattle.run_defs.specs.declared.outcome.Outcome.{Outcome}
 use Rattle.run_defs.specs.Outcomes.{end_of}
 use Rattle.run_defs.specs.Evaluation.{finished}
