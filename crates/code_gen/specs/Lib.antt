@@ -14,3 +14,4 @@ pub mod Meaning
 pub mod Law
 pub mod CalledTypes
 pub mod ExpressionCode
+pub mod StatementCode
