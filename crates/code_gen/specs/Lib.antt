@@ -15,3 +15,5 @@ pub mod Law
 pub mod CalledTypes
 pub mod ExpressionCode
 pub mod StatementCode
+pub mod CallsMade
+pub mod UnitCode
