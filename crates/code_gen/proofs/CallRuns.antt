@@ -2,8 +2,8 @@
 use Rattle.std.proofs.Common.{List, Some, [], refl, ℕ, ◌++◌, ◌∷◌, ◌≡◌}
 use Rattle.std.specs.Prelude.{codes, pos}
 use Rattle.acc_num.specs.declared.kind.IntKind.TheVariants as k
-use Rattle.critical_table.specs.declared.case.Case.TheVariants.{L1, L3, L6, L8}
 use Rattle.critical_table.specs.declared.code.Code.TheVariants.{U04}
+use Rattle.critical_table.specs.declared.case.Case.TheVariants.{L1, L3, L6, L8}
 use Rattle.object_store.specs.declared.by.By.TheVariants.{Star, Store}
 use Rattle.c_types.specs.CType.{CType}
 use Rattle.c_core.specs.TreeUnit.{Definition, Program, Statement}
@@ -15,15 +15,15 @@ use Rattle.c_core.specs.declared.form.Content.TheVariants as content
 use Rattle.c_core.specs.declared.form.Scalar.TheVariants as scalar
 use Rattle.lib_defs.specs.declared.shown.Shown.TheVariants.{Function, Number, Place}
 use Rattle.lib_defs.specs.declared.row_name.RowName.TheVariants as n
+use Rattle.run_defs.specs.declared.event.Event.TheVariants.{Died, ValueFailed}
 use Rattle.run_defs.specs.declared.outcome.Outcome.TheVariants.{Exited, OutOfBytes, OutOfTicks, Trapped, Undefined}
 use Rattle.run_defs.specs.declared.event.Event.{Event}
-use Rattle.run_defs.specs.declared.event.Event.TheVariants.{Died, ValueFailed}
-use Rattle.code_gen.proofs.Runs.{called, const_marks, gave, made, pointer, runs, says, static, stored, undefined}
-use Rattle.code_gen.proofs.Runs.{unreached, words}
 use Rattle.code_gen.proofs.Trees.{add, address, at, binary, block, call, call_unused, compare, definition, deref}
 use Rattle.code_gen.proofs.Trees.{eval, eval_void, function, get, gives_int, global, holds, if_then, init, int, local}
 use Rattle.code_gen.proofs.Trees.{main, main_at, nothing, null_of, num, return, retype, row_function, set, slot, to}
 use Rattle.code_gen.proofs.Trees.{unit_function, unit_of}
+use Rattle.code_gen.proofs.Runs.{called, const_marks, ends, gave, made, outcomes, pointer, runs, says, static, stored}
+use Rattle.code_gen.proofs.Runs.{undefined, unreached, words}
 use Rattle.library_types.specs.LibraryTypes.{row_type}
 
 abbrev of_none : CType
@@ -190,9 +190,9 @@ factorial = definition 5 (codes "f") of_int (holds int ∷ []) gives_int (block 
     (call 26 int (unit_function of_int 5) (binary o.Subtract 28 (get (local 27 int 0)) (num 1) ∷ [])))
     (num 1))) ∷ []))
 
-factorial_runs : (runs (unit_of (factorial
-    ∷ main_at 39 [] (return (call 56 int (unit_function of_int 5) (num 4 ∷ [])) ∷ []) ∷ []) []) 20 2000).outcome
-    ≡ Exited 24
+factorial_runs : outcomes (runs (unit_of (factorial
+    ∷ main_at 39 [] (return (call 56 int (unit_function of_int 5) (num 4 ∷ [])) ∷ []) ∷ []) []) 20 2000)
+    ≡ ends (Exited 24)
 unfolding words
 factorial_runs = refl
 

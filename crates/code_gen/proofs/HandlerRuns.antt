@@ -12,16 +12,16 @@ use Rattle.c_core.specs.declared.operator.Comparison.TheVariants as c
 use Rattle.lib_defs.specs.declared.shown.Shown.TheVariants.{Function, NoValue, Number, Place}
 use Rattle.lib_defs.specs.declared.row_name.RowName.{RowName}
 use Rattle.lib_defs.specs.declared.row_name.RowName.TheVariants as n
-use Rattle.run_defs.specs.declared.outcome.Outcome.TheVariants.{Aborted, Exited, OutOfBytes, OutOfTicks, Trapped}
 use Rattle.run_defs.specs.declared.event.Event.TheVariants.{Died, HandlerCalled, HandlerReturned, HandlerSet}
 use Rattle.run_defs.specs.declared.event.Event.TheVariants.{ValueFailed, Violated}
+use Rattle.run_defs.specs.declared.outcome.Outcome.TheVariants.{Aborted, Exited, OutOfBytes, OutOfTicks, Trapped}
 use Rattle.run_defs.specs.declared.event.Event.{Event}
 use Rattle.code_gen.proofs.Trees.{add, at, binary, block, call, call_unused, call_void, char, compare, constant}
 use Rattle.code_gen.proofs.Trees.{convert, decay, definition, eval, eval_void, function, get, global, holds, if_then}
 use Rattle.code_gen.proofs.Trees.{index, int, literal, local, main_at, nothing, null_of, num, return, retype}
 use Rattle.code_gen.proofs.Trees.{row_function, set, size_t, to, unit_function, unit_of}
-use Rattle.code_gen.proofs.Runs.{called, gave, heap, literal_marks, made, pointer, runs, says, static, stored, tells}
-use Rattle.code_gen.proofs.Runs.{unreached, words}
+use Rattle.code_gen.proofs.Runs.{called, ends, gave, heap, literal_marks, made, outcomes, pointer, runs, says, static}
+use Rattle.code_gen.proofs.Runs.{stored, tells, unreached, words}
 use Rattle.library_types.specs.LibraryTypes.{handler_type, row_type}
 
 abbrev row : RowName → ℕ → Core
@@ -162,11 +162,11 @@ unfolding words
 call_short = refl
 
 -- 2 bytes of the literal, 256 of main and 256 of the handler, and its 36
-handler_bytes : (runs returning 10 550).outcome ≡ Exited 0
+handler_bytes : outcomes (runs returning 10 550) ≡ ends (Exited 0)
 unfolding words
 handler_bytes = refl
 
-handler_byte_short : (runs returning 10 549).outcome ≡ OutOfBytes
+handler_byte_short : outcomes (runs returning 10 549) ≡ ends OutOfBytes
 unfolding words
 handler_byte_short = refl
 
@@ -175,7 +175,7 @@ handler_byte_short = refl
 abbrev resetting : Program
 resetting = unit_of (handler_at 6 (set_handler 63 (null_of (to handler_type)) ∷ [])
     ∷ main_at 72 []
-        (set_handler 107 (h_at 6) ∷ copies_unused 119 124 ∷ copies_unused 137 142 ∷ return (num 0) ∷ []) ∷ [])
+    (set_handler 107 (h_at 6) ∷ copies_unused 119 124 ∷ copies_unused 137 142 ∷ return (num 0) ∷ []) ∷ [])
     (a_at 124 ∷ a_at 142 ∷ [])
 
 resetting_aborts : runs resetting 20 1000 ≡ tells Aborted [] (codes "abort_handler_s: null pointer\n")
@@ -214,7 +214,7 @@ deep_ticks : runs deep 13 5000 ≡ says OutOfTicks []
 unfolding words
 deep_ticks = refl
 
-deep_ends : (runs deep 100 30000).outcome ≡ OutOfTicks
+deep_ends : outcomes (runs deep 100 30000) ≡ ends OutOfTicks
 unfolding words
 deep_ends = refl
 
@@ -279,10 +279,6 @@ nesting = unit_of (handler_at 22
     (record { token = at 6; size = 8; items = []; seals = [] }
     ∷ record { token = at 15; size = 4; items = []; seals = [] }
     ∷ text_at 90 (codes "long") 5 ∷ text_at 180 (codes "long") 5 ∷ [])
-
-nesting_output : (runs nesting 100 5000).output ≡ codes "\n\n\n333"
-unfolding words
-nesting_output = refl
 
 -- one handler's call, and in the first two another call of strcpy_s
 abbrev long_violated : ℕ → List Event

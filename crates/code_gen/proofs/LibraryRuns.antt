@@ -1,8 +1,8 @@
 -- Runs with library calls: values, traps, violations, allocation, streams.
-use Rattle.std.proofs.Common.{List, Some, [], refl, true, ℕ, ◌++◌, ◌∷◌, ◌≡◌}
 use Rattle.std.specs.Prelude.{codes, negsuc, pos, suc, zero}
-use Rattle.critical_table.specs.declared.case.Case.TheVariants.{L12, L9}
+use Rattle.std.proofs.Common.{List, Option, Some, [], refl, true, ℕ, ◌++◌, ◌∷◌, ◌≡◌}
 use Rattle.critical_table.specs.declared.code.Code.TheVariants.{U05, U11}
+use Rattle.critical_table.specs.declared.case.Case.TheVariants.{L12, L9}
 use Rattle.object_store.specs.declared.by.By.TheVariants.{TextRead, TextWrite}
 use Rattle.c_types.specs.CType.{Array, CType}
 use Rattle.c_types.specs.CType as type
@@ -12,23 +12,22 @@ use Rattle.c_core.specs.Tree as tree
 use Rattle.c_core.specs.TreeUnit as unit
 use Rattle.c_core.specs.declared.operator.Operator.TheVariants as o
 use Rattle.c_core.specs.declared.operator.Comparison.TheVariants as c
-use Rattle.lib_defs.specs.declared.row_name.RowName.{RowName}
 use Rattle.lib_defs.specs.World.{AtEnd, Broken, Input}
-use Rattle.lib_defs.specs.declared.shown.Shown.TheVariants.{Function, Number, Place}
-use Rattle.lib_defs.specs.Profile.{profile}
+use Rattle.lib_defs.specs.declared.row_name.RowName.{RowName}
 use Rattle.lib_defs.specs.Reply.{null}
+use Rattle.lib_defs.specs.declared.shown.Shown.TheVariants.{Function, Number, Place}
 use Rattle.lib_defs.specs.declared.row_name.RowName.TheVariants as n
-use Rattle.run_defs.specs.declared.outcome.Outcome.TheVariants.{Exited, OutOfTicks, ReadFault, Trapped, Undefined}
 use Rattle.run_defs.specs.declared.event.Event.TheVariants.{Died, HandlerCalled, HandlerReturned, HandlerSet}
 use Rattle.run_defs.specs.declared.event.Event.TheVariants.{ValueFailed, Violated}
+use Rattle.run_defs.specs.declared.outcome.Outcome.TheVariants.{Exited, OutOfTicks, ReadFault, Trapped, Undefined}
 use Rattle.run_defs.specs.declared.event.Event.{Event}
-use Rattle.code_gen.proofs.Runs.{called, const_marks, gave, heap, literal_marks, made, pointer, runs, says, static}
-use Rattle.code_gen.proofs.Runs.{stored, undefined, unreached, words}
+use Rattle.code_gen.proofs.Runs.{called, const_marks, gave, heap, literal_marks, made, pointer, runs, runs_over, says}
+use Rattle.code_gen.proofs.Runs.{static, stored, undefined, unreached, words}
 use Rattle.code_gen.proofs.Trees.{add, address, at, binary, call, call_unused, call_void, char, compare, constant}
 use Rattle.code_gen.proofs.Trees.{convert, decay, does, eval, eval_void, get, global, index, init, init_at, int}
 use Rattle.code_gen.proofs.Trees.{literal, local, main, minus_one, nothing, null_of, num, return, retype}
 use Rattle.code_gen.proofs.Trees.{row_function, set, size_t, slot, step, to, unit_of}
-use Rattle.code_gen.specs.Meaning.{Meaning, meaning}
+use Rattle.code_gen.specs.Meaning.{Meaning}
 use Rattle.library_types.specs.LibraryTypes.{handler_type, row_type}
 
 abbrev row : RowName → ℕ → Core
@@ -218,8 +217,8 @@ echo = unit_of (main (slot int 0 ∷ []) (does (unit.While
     (eval_void (call_unused 54 int (row n.Putchar 49) (get (local 55 int 0) ∷ []))))
     ∷ return (num 0) ∷ []) ∷ []) []
 
-abbrev over : Input → Meaning
-over input = meaning profile echo input (record { ticks = 100; bytes = 1000 })
+abbrev over : Input → Meaning × Option Meaning
+over input = runs_over echo input 100 1000
 
 abbrev a_byte : ℕ → List Event
 a_byte b = called 51 [] ∷ gave 51 (Number (pos b)) ∷ stored 4 0 4 ∷ called 49 [] ∷ gave 49 (Number (pos b)) ∷ []

@@ -1,5 +1,5 @@
 -- Runs with numbers: values out of range, conversions, changes of narrow objects, parts that are not evaluated, order.
-use Rattle.std.proofs.Common.{[], refl, ℕ, ◌∷◌, ◌≡◌}
+use Rattle.std.proofs.Common.{Option, [], refl, ℕ, ◌∷◌, ◌≡◌}
 use Rattle.acc_num.specs.declared.kind.IntKind.TheVariants as k
 use Rattle.critical_table.specs.declared.code.Code.TheVariants.{U01, U02, U03, U05, U12}
 use Rattle.critical_table.specs.declared.code.Code.{Code}
@@ -8,12 +8,12 @@ use Rattle.c_core.specs.Tree.{At, Core}
 use Rattle.c_core.specs.TreeUnit.{Program}
 use Rattle.c_core.specs.Tree as tree
 use Rattle.c_core.specs.declared.operator.Operator.TheVariants as o
-use Rattle.run_defs.specs.declared.event.Event.TheVariants.{Died}
 use Rattle.run_defs.specs.declared.outcome.Outcome.TheVariants.{Exited, Undefined}
-use Rattle.code_gen.proofs.Runs.{made, runs, says, stored, undefined, words}
+use Rattle.run_defs.specs.declared.event.Event.TheVariants.{Died}
 use Rattle.code_gen.proofs.Trees.{add, address, at, binary, bool, char, constant, convert, deref, discard, eval, get}
 use Rattle.code_gen.proofs.Trees.{init, int, local, main, num, postfix, return, retype, set, short, slot, to, unit_of}
 use Rattle.code_gen.proofs.Trees.{unsigned_char, update}
+use Rattle.code_gen.proofs.Runs.{made, runs, says, stored, undefined, words}
 use Rattle.code_gen.specs.Meaning.{Meaning}
 
 -- int main(void){return 40+2;}
@@ -30,11 +30,11 @@ abbrev x : Core
 x = local 40 int 0
 
 -- the run comes to its end
-abbrev fine : ℕ → Meaning
+abbrev fine : ℕ → Meaning × Option Meaning
 fine status = says (Exited status) [] (made 4 4 ∷ stored 4 0 4 ∷ Died 4 ∷ []) 2
 
 -- or stops at a column
-abbrev stops : Code → ℕ → Meaning
+abbrev stops : Code → ℕ → Meaning × Option Meaning
 stops code column = says (Undefined code (at column)) [] (made 4 4 ∷ stored 4 0 4 ∷ undefined code column ∷ []) 2
 
 -- x+1 at the greatest `int`, and one below
@@ -157,7 +157,7 @@ changing type value change = unit_of (main (slot type 0 ∷ [])
     (init 0 (constant type value) ∷ eval (change (local 27 type 0)) ∷ return (convert int (get (local 40 type 0))) ∷ [])
     ∷ []) []
 
-abbrev changed : ℕ → ℕ → Meaning
+abbrev changed : ℕ → ℕ → Meaning × Option Meaning
 changed size status = says (Exited status) []
     (made 4 size ∷ stored 4 0 size ∷ stored 4 0 size ∷ Died 4 ∷ []) 2
 

@@ -1,6 +1,7 @@
--- What is said of the runs of examples.
-use Rattle.std.specs.Prelude.{ℕ, ◌++◌, List, [], ◌∷◌}
+-- What is said of the runs of examples: what a unit means, and that the machine does this with its code.
+use Rattle.std.specs.Prelude.{ℕ, ◌++◌, List, [], ◌∷◌, Option, Some, None}
 use Rattle.std.specs.Fmt.{digits}
+use Rattle.std.specs.Option.{option_map}
 use Rattle.acc_num.specs.Numbers.{value_of}
 use Rattle.acc_num.specs.Operations.{power_of_two, converted_to}
 use Rattle.critical_table.specs.declared.case.Case.{Case}
@@ -25,7 +26,13 @@ use Rattle.run_defs.specs.declared.event.Event.TheVariants.{Stopped, Ended}
 use Rattle.run_defs.specs.declared.outcome.Outcome.{Outcome}
 use Rattle.run_defs.specs.Outcomes.{end_of}
 use Rattle.c_core.specs.TreeUnit.{Program}
-use Rattle.code_gen.specs.Meaning.{Meaning, meaning}
+use Rattle.vm_code.specs.Contents.{Contents}
+use Rattle.vm_code.specs.CodeFunctions.{environment}
+use Rattle.vm_code.specs.Frames.{Place, Ends}
+use Rattle.vm_code.specs.Machine.{run, started}
+use Rattle.run_defs.specs.Starts.{Budgets}
+use Rattle.code_gen.specs.Meaning.{Meaning, meaning, meaning_at}
+use Rattle.code_gen.specs.UnitCode.{unit_code}
 use Rattle.code_gen.proofs.Trees.{at}
 
 -- what a run computes with
@@ -37,28 +44,52 @@ words = tt
 abbrev pub no_input : Input
 no_input = record { bytes = []; ending = AtEnd }
 
--- the meaning of a unit over an empty input
-abbrev pub runs : Program → (ticks bytes : ℕ) → Meaning
-runs program ticks bytes = meaning profile program no_input (record { ticks = ticks; bytes = bytes })
+-- What the machine does with the code of the unit, if it ends within so many instructions.
+abbrev pub ended_run : Budgets → Place → Option Meaning
+ended_run budgets (Ends outcome s) = Some (meaning_at outcome budgets s)
+ended_run budgets place = None
+
+abbrev pub machine_run : Contents → Input → Budgets → (instructions : ℕ) → Option Meaning
+machine_run code input budgets instructions = ended_run budgets
+    (run (environment profile code) code (started profile code budgets input) instructions)
+
+-- the meaning of a unit over an input, and the run of its code
+abbrev pub runs_over : Program → Input → (ticks bytes : ℕ) → Meaning × Option Meaning
+runs_over program input ticks bytes =
+    let budgets : Budgets = record { ticks = ticks; bytes = bytes } in
+    (meaning profile program input budgets, machine_run (unit_code program) input budgets 3000)
+
+-- over an empty input
+abbrev pub runs : Program → (ticks bytes : ℕ) → Meaning × Option Meaning
+runs program ticks bytes = runs_over program no_input ticks bytes
 
 -- each journal begins with the message object, and ends with the end
 abbrev pub journal_of : List Event → Outcome → List Event
 journal_of events outcome =
     Made 2 131 Static ∷ Sealed 2 (record { at = 0; len = 131; mark = Literal }) ∷ events ++ Ended (end_of outcome) ∷ []
 
+abbrev pub meant : Outcome → (output err : List ℕ) → List Event → ℕ → Meaning
+meant outcome output err events ticks =
+    record { outcome = outcome; output = output; err = err; journal = journal_of events outcome; ticks = ticks }
+
+-- the machine does what the meaning says
+abbrev pub both : Meaning → Meaning × Option Meaning
+both m = (m, Some m)
+
 -- how a run ends, its output, the events between, and the ticks that it takes; nothing on the error output
-abbrev pub says : Outcome → List ℕ → List Event → ℕ → Meaning
-says outcome output events ticks = record {
-  outcome = outcome;
-  output = output;
-  err = [];
-  journal = journal_of events outcome;
-  ticks = ticks;
-}
+abbrev pub says : Outcome → List ℕ → List Event → ℕ → Meaning × Option Meaning
+says outcome output events ticks = both (meant outcome output [] events ticks)
+
+-- how both end
+abbrev pub outcomes : Meaning × Option Meaning → Outcome × Option Outcome
+outcomes x = (x.0.outcome, option_map (λ (m : Meaning). m.outcome) x.1)
+
+abbrev pub ends : Outcome → Outcome × Option Outcome
+ends outcome = (outcome, Some outcome)
 
 -- the same with an error output
-abbrev pub tells : Outcome → (output err : List ℕ) → List Event → ℕ → Meaning
-tells outcome output err events ticks = record (says outcome output events ticks) { err = err }
+abbrev pub tells : Outcome → (output err : List ℕ) → List Event → ℕ → Meaning × Option Meaning
+tells outcome output err events ticks = both (meant outcome output err events ticks)
 
 -- ---- events
 

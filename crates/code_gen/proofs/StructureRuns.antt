@@ -1,6 +1,6 @@
 -- Runs with structures: assigned, passed, returned; value objects and their deaths.
-use Rattle.std.proofs.Common.{List, Some, [], false, refl, ℕ, ◌++◌, ◌∷◌, ◌≡◌}
 use Rattle.std.specs.Prelude.{codes}
+use Rattle.std.proofs.Common.{List, Some, [], false, refl, ℕ, ◌++◌, ◌∷◌, ◌≡◌}
 use Rattle.critical_table.specs.declared.code.Code.TheVariants.{U04, U05, U10}
 use Rattle.critical_table.specs.declared.case.Case.TheVariants.{L6}
 use Rattle.object_store.specs.declared.by.By.TheVariants.{Star}
@@ -12,13 +12,13 @@ use Rattle.c_core.specs.declared.operator.Operator.TheVariants as o
 use Rattle.c_core.specs.declared.form.Content.TheVariants as content
 use Rattle.lib_defs.specs.declared.shown.Shown.TheVariants.{Place}
 use Rattle.run_defs.specs.declared.outcome.Outcome.TheVariants.{Exited, OutOfBytes, Trapped, Undefined}
-use Rattle.run_defs.specs.declared.event.Event.TheVariants.{Died, ValueFailed}
 use Rattle.run_defs.specs.declared.event.Event.{Event}
+use Rattle.run_defs.specs.declared.event.Event.TheVariants.{Died, ValueFailed}
 use Rattle.code_gen.proofs.Trees.{add, at, binary, block, by_value, call, call_giving, call_whole, decay, definition}
 use Rattle.code_gen.proofs.Trees.{deref, discard, does, eval, eval_void, function, get, gives_int, holds, init_at}
 use Rattle.code_gen.proofs.Trees.{init_whole, int, local, main, main_at, member, nothing, null_of, num, pair, return}
 use Rattle.code_gen.proofs.Trees.{retype, set, set_whole, slot, step, to, unit_function, unit_of}
-use Rattle.code_gen.proofs.Runs.{made, pointer, runs, says, stored, undefined, unreached, words}
+use Rattle.code_gen.proofs.Runs.{ends, made, outcomes, pointer, runs, says, stored, undefined, unreached, words}
 
 -- struct s{int a,b;}; each unit has `v` in slot 0, with 1 and 2
 abbrev v : Core
@@ -115,7 +115,7 @@ unfolding words
 passing_runs = refl
 
 -- live bytes at the deepest: main and f 512, v, value object and parameter 24
-passing_exactly : (runs passing 10 536).outcome ≡ Exited 31
+passing_exactly : outcomes (runs passing 10 536) ≡ ends (Exited 31)
 unfolding words
 passing_exactly = refl
 
@@ -187,7 +187,7 @@ k_type = function pair []
 
 unreturned : runs (unit_of (definition 10 (codes "k") k_type [] (Some (content.Whole 8)) nothing
     ∷ main_at 60 []
-        (eval_void (discard (call_giving false 80 pair (Some (content.Whole 8)) (unit_function k_type 10) []))
+    (eval_void (discard (call_giving false 80 pair (Some (content.Whole 8)) (unit_function k_type 10) []))
     ∷ return (member_a 93 (call_whole 91 pair (unit_function k_type 10) [])) ∷ []) ∷ []) []) 20 2000
     ≡ says (Undefined U04 (at 91)) [] (made 4 8 ∷ Died 4 ∷ made 6 8 ∷ undefined U04 91 ∷ []) 5
 unfolding words

@@ -1,7 +1,6 @@
 -- The code of an expression, one clause a node: how many instructions it has, and which they are.
 use Rattle.std.specs.Prelude.{ℕ, ◌+◌, Bool, true, false, List, [], ◌∷◌, ◌++◌, Option, Some}
 use Rattle.std.specs.Prelude as integer
-use Rattle.acc_num.specs.declared.kind.IntKind.{IntKind}
 use Rattle.acc_num.specs.declared.kind.IntKind.TheVariants.{I32}
 use Rattle.acc_num.specs.Kinds.{bytes_of}
 use Rattle.critical_table.specs.declared.pos.Pos.{Pos}
@@ -250,7 +249,7 @@ module _ (program : Program) (table : List Through) where
     -- to the right operand where the left one is 0
     code_of at slot here (tree.OrElse left right) = code_at at slot left
         ++ on here (i.IfZero (at + (size_in left + 3)) ∷ true_code
-            ∷ i.Jump (at + (size_in left + (size_in right + 5))) ∷ [])
+        ∷ i.Jump (at + (size_in left + (size_in right + 5))) ∷ [])
         ++ code_at (at + (size_in left + 3)) (slot + objects_in left) right ++ on here truth_code
     code_of at slot here (tree.Cond test first second) = code_at at slot test
         ++ on here (i.IfZero (at + (size_in test + (size_in first + 2))) ∷ [])
@@ -269,7 +268,7 @@ module _ (program : Program) (table : List Through) where
     code_of at slot here (tree.Call used gives function operands) = code_at at slot function
         ++ codes_at (at + size_in function) (slot + objects_in function) operands
         ++ on here (result_code gives (slot + (objects_in function + objects_among operands))
-            ++ i.Call (count_among operands) (type_number table (through function operands)) ∷ used_code used)
+        ++ i.Call (count_among operands) (type_number table (through function operands)) ∷ used_code used)
     code_of at slot here (tree.ValueObject size value) = code_at at slot value
         ++ on here (i.Make (slot + objects_in value) size ∷ i.Slot (slot + objects_in value) ∷ i.Swap ∷ i.Copy size ∷ [])
 

@@ -1,6 +1,5 @@
 -- The code of a statement, one clause a node: how many instructions it has, and which they are.
 use Rattle.std.specs.Prelude.{ℕ, zero, suc, ◌+◌, List, [], ◌∷◌, ◌++◌, length, reverse, map, Option, Some, None, unwrap_or}
-use Rattle.std.specs.Prelude.{ℤ}
 use Rattle.critical_table.specs.declared.pos.Pos.{Pos}
 use Rattle.c_core.specs.declared.form.Content.{Content}
 use Rattle.c_core.specs.declared.form.Content.TheVariants as content
@@ -196,8 +195,8 @@ module _ (program : Program) (table : List Through) where
         let item : ℕ → ℕ = item_place first (length locals) again items in
         full_code here at around value
         ++ on here (i.Duplicate ∷ i.Cases (length cases) ∷ pairs_to entered cases
-            ++ i.Default (default_to default entered passed) ∷ makes locals
-            ++ i.Cases (length cases) ∷ pairs_by item cases ++ i.Default (item (unwrap_or default 0)) ∷ [])
+        ++ i.Default (default_to default entered passed) ∷ makes locals
+        ++ i.Cases (length cases) ∷ pairs_by item cases ++ i.Default (item (unwrap_or default 0)) ∷ [])
         ++ items_code first text (within_block locals (in_switch (passed + 1) around)) items
         ++ on here (kills_of locals ++ i.Jump (passed + 1) ∷ i.Drop ∷ [])
     action_code here at text around unit.Break = on here (kills around.left ++ i.Jump around.behind ∷ [])
@@ -212,4 +211,4 @@ module _ (program : Program) (table : List Through) where
     items_code at text around NoStatement = []
     items_code at text around (MoreStatements first rest) = statement_code at text around first
         ++ items_code (at + statement_size (length around.left) (length around.left_again) first)
-            (text + length (texts_in first)) around rest
+        (text + length (texts_in first)) around rest

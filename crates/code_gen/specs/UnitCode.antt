@@ -53,7 +53,7 @@ outermost slots = record { behind = 0; again = 0; left = []; left_again = []; va
 abbrev pub function_code : Program → List Through → ℕ → ℕ → Definition → List (Instr × Pos)
 function_code program table at text function = on function.token (parameter_seals 0 function.parameters)
     ++ statement_code program table (at + length (parameter_seals 0 function.parameters)) text
-        (outermost function.slots) function.body
+    (outermost function.slots) function.body
     ++ on function.token (end_code (is_main function))
 
 abbrev pub functions_code : Program → List Through → ℕ → ℕ → List Definition → List (Instr × Pos)
