@@ -1,4 +1,5 @@
 pub mod Ends
+pub mod Lengths
 pub mod Trees
 pub mod Runs
 mod PointerRuns
