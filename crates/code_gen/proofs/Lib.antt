@@ -1,5 +1,6 @@
 pub mod Ends
 pub mod Lengths
+pub mod StatementLengths
 pub mod Trees
 pub mod Runs
 mod PointerRuns

@@ -139,6 +139,14 @@ abbrev pub default_to : Option ℕ → (entered passed : ℕ) → ℕ
 default_to None entered passed = passed
 default_to (Some item) entered passed = entered
 
+-- Behind the value of a switch. It is asked twice: whether a label fits, and, once the objects are made, where.
+abbrev pub switch_code : (entered passed : ℕ) → (item : ℕ → ℕ) → List Local → List Case → Option ℕ → List Instr
+switch_code entered passed item locals cases default =
+    (i.Duplicate ∷ i.Cases (length cases) ∷ pairs_to entered cases)
+    ++ (i.Default (default_to default entered passed) ∷ makes locals)
+    ++ (i.Cases (length cases) ∷ pairs_by item cases)
+    ++ i.Default (item (unwrap_or default 0)) ∷ []
+
 module _ (program : Program) (table : List Through) where
   -- a full expression: its value objects die, the last made first
   abbrev pub full_code : Pos → ℕ → Around → Core → List (Instr × Pos)
@@ -186,17 +194,13 @@ module _ (program : Program) (table : List Through) where
         on here (i.Tick ∷ []) ++ full_code here (at + 1) around test ++ on here (i.IfZero end ∷ [])
         ++ statement_code (at + (full_size test + 2)) text (in_loop end again around) body
         ++ full_code here again around step ++ on here (i.Jump at ∷ [])
-    -- The value is asked twice: whether a label fits, and, once the objects are made, where.
     action_code here at text around (unit.Switch value locals items cases default) =
         let entered : ℕ = at + (full_size value + (length cases + 3)) in
         let first : ℕ = entered + (length locals + (length cases + 2)) in
         let again : ℕ = length around.left_again + length locals in
         let passed : ℕ = first + (items_size (length locals) again items + (length locals + 1)) in
         let item : ℕ → ℕ = item_place first (length locals) again items in
-        full_code here at around value
-        ++ on here (i.Duplicate ∷ i.Cases (length cases) ∷ pairs_to entered cases
-        ++ i.Default (default_to default entered passed) ∷ makes locals
-        ++ i.Cases (length cases) ∷ pairs_by item cases ++ i.Default (item (unwrap_or default 0)) ∷ [])
+        full_code here at around value ++ on here (switch_code entered passed item locals cases default)
         ++ items_code first text (within_block locals (in_switch (passed + 1) around)) items
         ++ on here (kills_of locals ++ i.Jump (passed + 1) ∷ i.Drop ∷ [])
     action_code here at text around unit.Break = on here (kills around.left ++ i.Jump around.behind ∷ [])
