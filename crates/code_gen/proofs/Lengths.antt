@@ -1,5 +1,5 @@
 -- The code of each expression and statement has as many instructions as its size says.
-use Rattle.std.proofs.Common.{◌≡◌, ℕ, suc, ◌+◌, Bool, true, false, List, [], ◌∷◌, ◌++◌, length, refl, sym, ap, arith, ◌∙◌}
+use Rattle.std.proofs.Common.{◌≡◌, ℕ, suc, ◌+◌, Bool, true, false, List, [], ◌∷◌, ◌++◌, length, refl, ap, arith}
 use Rattle.std.proofs.lemmas.List.{length-append}
 use Rattle.std.specs.Prelude.{Option, Some, None}
 use Rattle.critical_table.specs.declared.pos.Pos.{Pos}
@@ -38,8 +38,11 @@ module _ (here : Pos) (instrs : List Instr) where
 pub split_long : (here : Pos) (a : List (Instr × Pos)) (is : List Instr) (b : List (Instr × Pos)) (js : List Instr)
     (m k n l : ℕ) → length a ≡ m → length is ≡ k → length b ≡ n → length js ≡ l
     → length (a ++ on here is ++ b ++ on here js) ≡ m + (k + (n + l))
-split_long here a is b js m k n l ea ei eb ej = omega (arith, two_long here js (a ++ on here is) b (m + k) n l
-    (one_long here is a m k ea ei) eb ej)
+split_long here a is b js m k n l ea ei eb ej = omega (
+  arith,
+  two_long here js (a ++ on here is) b (m + k) n l
+      (one_long here is a m k ea ei) eb ej,
+)
 
 pub both_long : (a b : List (Instr × Pos)) (m n : ℕ) → length a ≡ m → length b ≡ n → length (a ++ b) ≡ m + n
 both_long a b m n ea eb = omega (arith, length-append a b, ea, eb)
@@ -137,37 +140,37 @@ module _ (program : Program) (table : List Through) where
         (code_long at slot value) refl
     node_long at slot here (tree.Step stride true pointer number) =
         let h : length (code_of program table at slot here (tree.Step stride true pointer number))
-            ≡ size_in number + (size_in pointer + 2) = two_long here (i.Swap ∷ i.Step stride ∷ []) _ _ _ _ 2 (code_long at slot number)
-            (code_long _ _ pointer) refl in
+        ≡ size_in number + (size_in pointer + 2) = two_long here (i.Swap ∷ i.Step stride ∷ []) _ _ _ _ 2 (code_long at slot number)
+        (code_long _ _ pointer) refl in
         omega (arith, h)
     node_long at slot here (tree.AndAlso left right) =
         let h : length (code_of program table at slot here (tree.AndAlso left right))
-            ≡ size_in left + (1 + (size_in right + 4)) = split_long here _
-            (i.IfZero (at + (size_in left + (size_in right + 4))) ∷ []) _
-            (truth_code ++ i.Jump (at + (size_in left + (size_in right + 5))) ∷ false_code ∷ [])
-            _ 1 _ 4 (code_long at slot left) refl
-            (code_long _ _ right) refl in
+        ≡ size_in left + (1 + (size_in right + 4)) = split_long here _
+        (i.IfZero (at + (size_in left + (size_in right + 4))) ∷ []) _
+        (truth_code ++ i.Jump (at + (size_in left + (size_in right + 5))) ∷ false_code ∷ [])
+        _ 1 _ 4 (code_long at slot left) refl
+        (code_long _ _ right) refl in
         omega (arith, h)
     node_long at slot here (tree.OrElse left right) =
         let h : length (code_of program table at slot here (tree.OrElse left right))
-            ≡ size_in left + (3 + (size_in right + 2)) = split_long here _
-            (i.IfZero (at + (size_in left + 3)) ∷ true_code ∷ i.Jump (at + (size_in left + (size_in right + 5))) ∷ []) _
-            truth_code _ 3 _ 2 (code_long at slot left) refl
-            (code_long _ _ right) refl in
+        ≡ size_in left + (3 + (size_in right + 2)) = split_long here _
+        (i.IfZero (at + (size_in left + 3)) ∷ true_code ∷ i.Jump (at + (size_in left + (size_in right + 5))) ∷ []) _
+        truth_code _ 3 _ 2 (code_long at slot left) refl
+        (code_long _ _ right) refl in
         omega (arith, h)
     node_long at slot here (tree.Cond test first second) =
         let h : length (code_of program table at slot here (tree.Cond test first second))
-            ≡ size_in test + (1 + (size_in first + 1)) + size_in second = both_long _ _ _ _
-            (split_long here _ (i.IfZero (at + (size_in test + (size_in first + 2))) ∷ []) _
-                (i.Jump (at + (size_in test + (size_in first + (size_in second + 2)))) ∷ []) _ 1 _ 1
-                (code_long at slot test) refl (code_long _ _ first) refl)
-            (code_long _ _ second) in
+        ≡ size_in test + (1 + (size_in first + 1)) + size_in second = both_long _ _ _ _
+        (split_long here _ (i.IfZero (at + (size_in test + (size_in first + 2))) ∷ []) _
+        (i.Jump (at + (size_in test + (size_in first + (size_in second + 2)))) ∷ []) _ 1 _ 1
+        (code_long at slot test) refl (code_long _ _ first) refl)
+        (code_long _ _ second) in
         omega (arith, h)
     node_long at slot here (tree.Call used gives function operands) =
         two_long here
-            (result_code gives (slot + (objects_in function + objects_among operands))
-                ++ i.Call (count_among operands) (type_number table (through function operands)) ∷ used_code used)
-            _ _ _ _ _ (code_long at slot function) (codes_long _ _ operands) (call_long used gives _ _)
+        (result_code gives (slot + (objects_in function + objects_among operands))
+        ++ i.Call (count_among operands) (type_number table (through function operands)) ∷ used_code used)
+        _ _ _ _ _ (code_long at slot function) (codes_long _ _ operands) (call_long used gives _ _)
 
     pub codes_long : (at slot : ℕ) (operands : Cores)
         → length (codes_at program table at slot operands) ≡ size_among operands

@@ -1,6 +1,7 @@
 pub mod Ends
 pub mod Lengths
 pub mod StatementLengths
+pub mod Sizes
 pub mod Trees
 pub mod Runs
 mod PointerRuns

@@ -17,3 +17,4 @@ pub mod ExpressionCode
 pub mod StatementCode
 pub mod CallsMade
 pub mod UnitCode
+pub mod SizeLaw
