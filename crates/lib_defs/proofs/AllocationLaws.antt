@@ -72,7 +72,8 @@ module _ (row : Row) (args : List Arg) (w : World) (keeps : Rest → Bool) where
       → (b ≡ true → (1 ≤ size) × (size ≤ rsize_max)) → (stores : List Patch)
       → (1 ≤ size → AreReached (with_new w.store size Allocated) stores) → length stores ≤ 4 → (released : Option ℕ)
       → IfReleased w.store args released → Fits row args w keeps (reply_with w (make_if b w.store size stores released))
-  make_fits passes form false size sizes stores reached few released fits = answer_fits row args w keeps passes (Ptr null) (form null)
+  make_fits passes form false size sizes stores reached few released fits =
+      answer_fits row args w keeps passes (Ptr null) (form null)
   make_fits passes form true size sizes stores reached few released fits =
       let known = sizes refl in
       record {
@@ -136,7 +137,8 @@ module _ (row : Row) (args : List Arg) (w : World) (keeps : Rest → Bool) where
       (λ some. (new_reached s size (length (bytes_at s p size)) some (length-bytes_at s p size), tt)) (omega arith)
       (Some p.object) released)
 
-  pub free_fits : name_at row ≡ Some n.Free → Fits row args w keeps (plain_or (plain_did n.Free (values_of args) w.store) n.Free args w)
+  pub free_fits : name_at row ≡ Some n.Free
+      → Fits row args w keeps (plain_or (plain_did n.Free (values_of args) w.store) n.Free args w)
   free_fits named =
       let form : HasForm row args Nothing = has_form row args n.Free named Nothing (λ fit. tt) in
       release_fits n.Free named

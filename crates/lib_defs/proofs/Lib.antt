@@ -35,5 +35,8 @@ pub mod TextExamples
 pub mod TokenExamples
 pub mod OtherExamples
 pub mod FactExamples
+pub mod PlainExamples
+pub mod AllocationExamples
 pub mod PrintExamples
+pub mod ProfileExamples
 pub mod RowNames

@@ -30,7 +30,8 @@ use Rattle.lib_defs.proofs.RuleSuccess.{length_of, size_within}
 use Rattle.lib_defs.proofs.WholeTexts.{span_reached, span_within}
 use Rattle.lib_defs.proofs.TextLaws.{text_fits}
 use Rattle.lib_defs.proofs.PartLaws.{units_long, ended_reached}
-use Rattle.lib_defs.proofs.PlainFits.{PlainFits, Sees, sees_fits, sees_look, sees_known, sees_range, fits_reach, fits_look}
+use Rattle.lib_defs.proofs.PlainFits.{PlainFits, Sees, sees_fits, sees_look, sees_known, sees_range, fits_reach}
+use Rattle.lib_defs.proofs.PlainFits.{fits_look}
 use Rattle.lib_defs.proofs.PlainFits.{fits_unless, fits_stores, fits_answer, string_short}
 use Rattle.lib_defs.proofs.PlainMemoryLaws.{AnyPointer, AnyInt, order_given, equal_given}
 
@@ -49,7 +50,8 @@ module _ (s : Storage) (sized : IsSized s) where
   with_string : (P : Value → Type 0) (w : ℕ) → 0 < w → (p : Pointer) (go : ℕ → Did)
       → ((k : ℕ) → text w s p (rsize_max + 1) ≡ Length k → k < rsize_max + 1 → PlainFits P s (go k))
       → PlainFits P s (look_then (see_string w s p) go)
-  with_string P w some p go next = with_text P w p (rsize_max + 1) go (λ k e. next k e (string_short w some s p k sized e))
+  with_string P w some p go next =
+      with_text P w p (rsize_max + 1) go (λ k e. next k e (string_short w some s p k sized e))
 
   pub length_fits : (w : ℕ) → 0 < w → (p : Pointer) → PlainFits (IsGiven size_t) s (length_did w s p)
   length_fits w some p = with_string (IsGiven size_t) w some p _ (λ k e less.
@@ -115,7 +117,8 @@ module _ (s : Storage) (sized : IsSized s) where
       fits_unless AnyPointer s _ _
       (fits_reach AnyPointer s (unit_place 1 s1 j) (size 1 (k + 1)) 1 TextWrite _ (λ write.
       fits_stores AnyPointer s (ended_units 1 s (unit_place 1 s1 j) s2 k) (Ptr s1)
-      (ended_reached 1 s (unit_place 1 s1 j) s2 k sized (units_long 1 s s2 n k (omega arith) e) write) (omega arith) tt))))
+      (ended_reached 1 s (unit_place 1 s1 j) s2 k sized (units_long 1 s s2 n k (omega arith) e) write) (omega arith)
+      tt))))
 
   -- comparisons
   unit_sees : (w : ℕ) (p : Pointer) → Sees Anything s (see_unit w s p)

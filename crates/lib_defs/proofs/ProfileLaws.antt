@@ -161,7 +161,8 @@ module _ (row : Row) (args : List Arg) (w : World) (keeps : Rest → Bool) where
   named_fits name (Some r) named e is = annex_row_fits row args name r named e w is.sized keeps w.streams
   named_fits name None named e is = other_fits name named is
 
-  pub name_fits : (name : RowName) → name_at row ≡ Some name → IsWorld w → Fits row args w keeps (reply_of (Some name) args w)
+  pub name_fits : (name : RowName) → name_at row ≡ Some name → IsWorld w
+      → Fits row args w keeps (reply_of (Some name) args w)
   name_fits name named is = named_fits name (rule_of name (values_of args)) named refl is
 
 row_fits : (row : Row) (args : List Arg) (w : World) (keeps : Rest → Bool) (o : Option RowName) → name_at row ≡ o

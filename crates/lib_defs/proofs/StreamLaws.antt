@@ -41,7 +41,8 @@ small_given n le = record { least = omega (arith, ints); greatest = omega (arith
 end_given : IsGiven int (Num (negsuc 0))
 end_given = record { least = omega (arith, ints); greatest = omega (arith, ints) }
 
-pub first_small : (bytes : List ℕ) → All (λ (b : ℕ). b < 256) bytes → (b : ℕ) (rest : List ℕ) → bytes ≡ b ∷ rest → b ≤ 255
+pub first_small : (bytes : List ℕ) → All (λ (b : ℕ). b < 256) bytes → (b : ℕ) (rest : List ℕ) → bytes ≡ b ∷ rest
+    → b ≤ 255
 first_small bytes all b rest e =
     let h : b < 256 = subst (λ (xs : List ℕ). All (λ (x : ℕ). x < 256) xs) e all 0 b (omega arith) in
     omega (arith, h)
@@ -82,7 +83,8 @@ module _ (row : Row) (args : List Arg) (w : World) (keeps : Rest → Bool) where
   pub put_fits : name_at row ≡ Some n.Putchar → (c : ℤ) → Fits row args w keeps (put_reply w c)
   put_fits named c =
       answer_fits row args w keeps (rw named refl) (Num (pos (modulo_byte c)))
-      (has_form row args n.Putchar named (Num (pos (modulo_byte c))) (λ fit. small_given (modulo_byte c) (byte_small c)))
+      (has_form row args n.Putchar named (Num (pos (modulo_byte c)))
+      (λ fit. small_given (modulo_byte c) (byte_small c)))
 
   pub get_fits : name_at row ≡ Some n.Getchar → (bytes : List ℕ) (ending : Ending) → w.streams.input.bytes ≡ bytes
       → w.streams.input.ending ≡ ending
@@ -95,7 +97,8 @@ module _ (row : Row) (args : List Arg) (w : World) (keeps : Rest → Bool) where
       answer_fits row args w keeps (rw named refl) (Num (pos b))
       (has_form row args n.Getchar named (Num (pos b)) (λ fit. small_given b (small b bytes refl)))
 
-  pub puts_fits : name_at row ≡ Some n.Puts → (seen : Look (List ℕ)) → Sees AnyText w.store seen → Fits row args w keeps (puts_by seen w)
+  pub puts_fits : name_at row ≡ Some n.Puts → (seen : Look (List ℕ)) → Sees AnyText w.store seen
+      → Fits row args w keeps (puts_by seen w)
   puts_fits named (Saw text) h =
       answer_fits row args w keeps (rw named refl) (Num (pos 0))
       (has_form row args n.Puts named (Num (pos 0)) (λ fit. small_given 0 (omega arith)))

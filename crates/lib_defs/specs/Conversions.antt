@@ -1,5 +1,5 @@
--- The conversion specifications of a format (7.21.6.1p3 to p8), in the profile of this project: no `#`, no space, no `*`,
--- a precision for strings alone, no length modifiers j and t, and the conversions d, i, u, x, X, o, c, s and %.
+-- The conversion specifications of a format (7.21.6.1p3 to p8), in the profile of this project: no `#`, no space, no
+-- `*`, a precision for strings alone, no length modifiers j and t, and the conversions d, i, u, x, X, o, c, s and %.
 use Rattle.std.specs.Prelude.{ℕ, zero, suc, ◌==◌, nat_lt, not, ◌&&◌, ◌||◌, Bool, true, false, List, [], ◌∷◌, take, drop}
 use Rattle.std.specs.Prelude.{Option, Some, None, is_some, codes, if◌then◌else◌}
 use Rattle.std.specs.List.{list_any, prefix_len}
@@ -16,7 +16,7 @@ pub data Modifier : Type 0 where
   Z : Modifier
 
 -- A specification as it is written: flags, the digits of the width, those of the precision behind its `.`, the length
--- modifier, and the character that is to name the conversion.
+-- modifier, and the character that names the conversion.
 pub record Specification : Type 0 where
   pub flags : List ℕ
   pub width : List ℕ
@@ -87,7 +87,8 @@ read_letter flags width precision modifier (letter ∷ rest) = Some (record {
 
 abbrev pub read_from_precision : (flags width : List ℕ) → List ℕ → Option Read
 read_from_precision flags width text =
-    read_letter flags width (precision_of text) (modifier_of (after_precision text)) (after_modifier (after_precision text))
+    read_letter flags width (precision_of text) (modifier_of (after_precision text))
+    (after_modifier (after_precision text))
 
 abbrev pub read_from_width : (flags : List ℕ) → List ℕ → Option Read
 read_from_width flags text = read_from_precision flags (front is_digit text) (after is_digit text)
@@ -96,24 +97,29 @@ read_from_width flags text = read_from_precision flags (front is_digit text) (af
 abbrev pub read_specification : List ℕ → Option Read
 read_specification text = read_from_width (front is_flag text) (after is_flag text)
 
--- The conversions (p8): `%%`; a number, with or without a sign, in a base and its digits' case; a character; a string.
+-- The forms that arguments take (p8): a number with a sign; one without, in a base, with letters of a case; a
+-- character; a string.
+pub data Form : Type 0 where
+  Signed : Form
+  Unsigned : (base : ℕ) (upper : Bool) → Form
+  Character : Form
+  String : Form
+
+-- The conversions: `%%` takes no argument.
 pub data Conversion : Type 0 where
   Percent : Conversion
-  Signed : Conversion
-  Unsigned : (base : ℕ) (upper : Bool) → Conversion
-  Character : Conversion
-  String : Conversion
+  Takes : Form → Conversion
 
 abbrev pub named_conversion : ℕ → Option Conversion
 named_conversion letter =
     if among (codes "%") letter then Some Percent else
-    if among (codes "di") letter then Some Signed else
-    if among (codes "u") letter then Some (Unsigned 10 false) else
-    if among (codes "x") letter then Some (Unsigned 16 false) else
-    if among (codes "X") letter then Some (Unsigned 16 true) else
-    if among (codes "o") letter then Some (Unsigned 8 false) else
-    if among (codes "c") letter then Some Character else
-    if among (codes "s") letter then Some String else None
+    if among (codes "di") letter then Some (Takes Signed) else
+    if among (codes "u") letter then Some (Takes (Unsigned 10 false)) else
+    if among (codes "x") letter then Some (Takes (Unsigned 16 false)) else
+    if among (codes "X") letter then Some (Takes (Unsigned 16 true)) else
+    if among (codes "o") letter then Some (Takes (Unsigned 8 false)) else
+    if among (codes "c") letter then Some (Takes Character) else
+    if among (codes "s") letter then Some (Takes String) else None
 
 -- What a specification may not have.
 abbrev pub has_twice : List ℕ → Bool
@@ -142,17 +148,20 @@ is_empty _ = false
 abbrev pub is_alone : Specification → Bool
 is_alone c = is_empty c.flags && (is_empty c.width && (not (is_some c.precision) && not (has_modifier c.modifier)))
 
-abbrev pub may_have : Conversion → Specification → Bool
-may_have Percent c = is_alone c
+abbrev pub may_have : Form → Specification → Bool
 may_have Signed c = not (is_some c.precision)
 may_have (Unsigned base upper) c = not (is_some c.precision)
 may_have Character c = not (is_some c.precision) && (not (has_modifier c.modifier) && not (has_flag (codes "0") c))
 may_have String c = not (has_modifier c.modifier) && not (has_flag (codes "0") c)
 
+abbrev pub may_stand : Conversion → Specification → Bool
+may_stand Percent c = is_alone c
+may_stand (Takes form) c = may_have form c
+
 abbrev pub is_well_formed : Conversion → Specification → Bool
 is_well_formed conversion c =
     not (has_twice c.flags)
-    && (not (is_wide c.width) && (not (option_map_or is_wide c.precision false) && may_have conversion c))
+    && (not (is_wide c.width) && (not (option_map_or is_wide c.precision false) && may_stand conversion c))
 
 abbrev pub well_formed : Option Conversion → Specification → Option Conversion
 well_formed None c = None
