@@ -22,6 +22,7 @@ pub mod PlainMemoryLaws
 pub mod PlainTextLaws
 pub mod Flows
 pub mod NewObjects
+pub mod CharacterLemmas
 pub mod PrintLaws
 pub mod PlainCalls
 pub mod AllocationLaws

@@ -22,7 +22,7 @@ use Rattle.lib_defs.specs.Rules.{look_then}
 use Rattle.lib_defs.specs.Prototypes.{IsGiven, int, size_t}
 use Rattle.lib_defs.specs.PlainMemory.{see_known, order}
 use Rattle.lib_defs.specs.PlainTexts.{length_did, text_copy_did, append_did, part_copy_did, part_append_did, see_unit}
-use Rattle.lib_defs.specs.PlainTexts.{or_later, text_order, part_order_did, found_did, text_find_did}
+use Rattle.lib_defs.specs.PlainTexts.{or_later, order_from, text_order, part_order_did, found_did, text_find_did}
 use Rattle.lib_defs.specs.Laws.{IsSized, AreReached}
 use Rattle.lib_defs.proofs.Parts.{part_reached, front_reached, size_exact}
 use Rattle.lib_defs.proofs.RuleLemmas.{bytes_long, stores_reached}
@@ -131,19 +131,19 @@ module _ (s : Storage) (sized : IsSized s) where
   decided_sees true false z given later h = h
   decided_sees false last z given later h = given
 
-  text_order_sees : (value : ℕ → ℤ) (w : ℕ) (p q : Pointer) (most : ℕ)
-      → Sees AnyInt s (text_order value w s p q most)
-  text_order_sees value w p q zero = equal_given
-  text_order_sees value w p q (suc most) =
-      sees_look Anything AnyInt s (see_unit w s p) _ (unit_sees w p) (λ a u.
-      sees_look Anything AnyInt s (see_unit w s q) _ (unit_sees w q) (λ b v.
+  order_sees : (value : ℕ → ℤ) (w : ℕ) (p q : Pointer) (k most : ℕ)
+      → Sees AnyInt s (order_from value w s p q k most)
+  order_sees value w p q k zero = equal_given
+  order_sees value w p q k (suc most) =
+      sees_look Anything AnyInt s (see_unit w s (unit_place w p k)) _ (unit_sees w (unit_place w p k)) (λ a u.
+      sees_look Anything AnyInt s (see_unit w s (unit_place w q k)) _ (unit_sees w (unit_place w q k)) (λ b v.
       decided_sees (a == b) (a == 0) (order (int_lt (value a) (value b))) (order_given (int_lt (value a) (value b))) _
-      (text_order_sees value w (unit_place w p 1) (unit_place w q 1) most)))
+      (order_sees value w p q (suc k) most)))
 
   pub order_fits : (value : ℕ → ℤ) (w : ℕ) (s1 s2 : Pointer) (n : ℕ)
       → PlainFits (IsGiven int) s (part_order_did value w s s1 s2 n)
   order_fits value w s1 s2 n =
-      fits_look (IsGiven int) s AnyInt (text_order value w s s1 s2 n) _ (text_order_sees value w s1 s2 n)
+      fits_look (IsGiven int) s AnyInt (text_order value w s s1 s2 n) _ (order_sees value w s1 s2 0 n)
       (λ answer e given. fits_answer (IsGiven int) s (Num answer) given)
 
   found_fits : (p : Pointer) (found : Option ℕ) → PlainFits AnyPointer s (found_did p found)

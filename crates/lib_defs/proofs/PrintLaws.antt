@@ -20,7 +20,8 @@ use Rattle.lib_defs.specs.Units.{unit_place}
 use Rattle.lib_defs.specs.Reply.{Stop, FailsReach, FailsValue, FailsArgument, IsUndefined, Ends}
 use Rattle.lib_defs.specs.Constraints.{Look, Saw, Stuck, look}
 use Rattle.lib_defs.specs.Prototypes.{IsGiven, int}
-use Rattle.lib_defs.specs.Characters.{Characters, character_then, characters_at, see_character, whole_by, whole}
+use Rattle.lib_defs.specs.Characters.{Characters, see_character, character_then, characters_from, characters_at}
+use Rattle.lib_defs.specs.Characters.{whole_by, whole}
 use Rattle.lib_defs.specs.Conversions.{Bare, Specification, Form, Signed, Unsigned, Character, String, Conversion}
 use Rattle.lib_defs.specs.Conversions.{Percent, Takes, conversion_of, Piece, Ordinary, Specified, Unfinished}
 use Rattle.lib_defs.specs.Conversions.{pieces_within}
@@ -58,13 +59,19 @@ module _ (s : Storage) where
   character_stops (Saw zero) h rest r = tt
   character_stops (Saw (suc c)) h rest r = r
 
+  character_sees : (p : Pointer) → Sees (λ (c : ℕ). Unit {0}) s (see_character s p)
+  character_sees p =
+      sees_range (λ (c : ℕ). Unit {0}) s p 1 1 OtherRead (see_known (known_number (bytes_at s p 1)))
+      (sees_known s (known_number (bytes_at s p 1)))
+
+  characters_stop_from : (p : Pointer) (k most : ℕ) → Stops (RuleStop s) (characters_from s p k most).stop
+  characters_stop_from p k zero = tt
+  characters_stop_from p k (suc most) =
+      character_stops (see_character s (unit_place 1 p k)) (character_sees (unit_place 1 p k))
+      (λ u. characters_from s p (suc k) most) (characters_stop_from p (suc k) most)
+
   pub characters_stop : (p : Pointer) (most : ℕ) → Stops (RuleStop s) (characters_at s p most).stop
-  characters_stop p zero = tt
-  characters_stop p (suc most) =
-      character_stops (see_character s p)
-      (sees_range (λ (c : ℕ). Unit {0}) s p 1 1 OtherRead (see_known (known_number (bytes_at s p 1)))
-      (sees_known s (known_number (bytes_at s p 1))))
-      (λ u. characters_at s (unit_place 1 p 1) most) (characters_stop (unit_place 1 p 1) most)
+  characters_stop p most = characters_stop_from p 0 most
 
   whole_sees_by : (list : List ℕ) (stop : Option Stop) → Stops (RuleStop s) stop → Sees AnyText s (whole_by list stop)
   whole_sees_by list None h = tt

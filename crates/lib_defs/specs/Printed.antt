@@ -20,9 +20,9 @@ use Rattle.lib_defs.specs.Reply.{Stop, FailsArgument, IsUndefined}
 use Rattle.lib_defs.specs.Constraints.{Look, Saw, Stuck, look}
 use Rattle.lib_defs.specs.RowTable.{modulo_byte}
 use Rattle.lib_defs.specs.Characters.{Characters, ended_by, behind, characters_at, whole}
-use Rattle.lib_defs.specs.Conversions.{Modifier, Bare, Hh, H, L, Ll, Z, Specification, has_flag, Form, Conversion, Percent}
-use Rattle.lib_defs.specs.Conversions.{Takes, Signed, Unsigned, Character, String, conversion_of, Piece, Ordinary, Specified}
-use Rattle.lib_defs.specs.Conversions.{Unfinished, pieces_within}
+use Rattle.lib_defs.specs.Conversions.{Modifier, Bare, Hh, H, L, Ll, Z, Specification, has_flag, Form, Signed}
+use Rattle.lib_defs.specs.Conversions.{Unsigned, Character, String, Conversion, Percent, Takes, conversion_of, Piece}
+use Rattle.lib_defs.specs.Conversions.{Ordinary, Specified, Unfinished, pieces_within}
 
 -- A text with its sign, padded to the width: on the right with spaces, on the left with zeros behind the sign, or on
 -- the left with spaces. `-` overrules `0` (p6).

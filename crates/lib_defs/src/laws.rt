@@ -9,6 +9,7 @@ ghost use Rattle.lib_defs.specs.Violations.{StandsThere};
 ghost use Rattle.lib_defs.specs.Library.{values_of};
 ghost use Rattle.lib_defs.specs.Laws.{IsSized, CallFits, KeepsLaws};
 ghost use Rattle.lib_defs.specs.RuleLaws.{RuleKeeps};
+ghost use Rattle.lib_defs.specs.Characters.{AreRead, characters_from};
 ghost use Rattle.lib_defs.specs.Profile.{profile};
 ghost use Rattle.lib_defs.specs.Sample.{sample};
 
@@ -41,6 +42,14 @@ pub fn profile_law()
 /// A row that wants a guest's function can keep them too: there is a library with one, beside those of the profile.
 pub fn sample_law()
     ensures { KeepsLaws sample }
+{}
+
+/// The characters of a text that is read to be written are those that the conditions on their number give, and no
+/// others meet them (7.1.1).
+pub fn characters_law()
+    ensures is { (s : _) (p : _) (k : _) (most : _) → AreRead s p k most (characters_from s p k most) }
+    ensures alone { (s : _) (p : _) (k : _) (most : _) (c : _)
+        → AreRead s p k most c → characters_from s p k most ≡ c }
 {}
 
 /// The message of each class stands in the message object of each store.
