@@ -24,9 +24,9 @@ use Rattle.lib_defs.specs.Characters.{Characters, see_character, character_then,
 use Rattle.lib_defs.specs.Characters.{whole_by, whole}
 use Rattle.lib_defs.specs.Conversions.{Bare, Specification, Form, Signed, Unsigned, Character, String, Conversion}
 use Rattle.lib_defs.specs.Conversions.{Percent, Takes, conversion_of, Piece, Ordinary, Specified, Unfinished}
-use Rattle.lib_defs.specs.Conversions.{pieces_within}
+use Rattle.lib_defs.specs.Conversions.{pieces_of}
 use Rattle.lib_defs.specs.Printed.{signed_kind, unsigned_kind, number_for, text_for, most_of, argument, argument_text}
-use Rattle.lib_defs.specs.Printed.{write_then, convert_then, pieces_text, printed}
+use Rattle.lib_defs.specs.Printed.{write_then, convert_then, printed_from, printed}
 use Rattle.lib_defs.specs.RuleLaws.{RuleStop}
 use Rattle.lib_defs.proofs.PlainFits.{Sees, sees_known, sees_range}
 
@@ -144,15 +144,14 @@ module _ (s : Storage) where
   unfinished_stops (Some stop) h = print_stop stop h
 
   pieces_stop : (end : Option Stop) → Stops (RuleStop s) end → (pieces : List Piece) (k : ℕ) → 2 ≤ k → (args : List Arg)
-      → Stops PrintStop (pieces_text s end pieces k args).stop
+      → Stops PrintStop (printed_from s end pieces k args).stop
   pieces_stop end h [] k more args = end_stops end h
   pieces_stop end h (Ordinary c ∷ pieces) k more args = pieces_stop end h pieces k more args
-  pieces_stop end h (Unfinished ∷ pieces) k more args = unfinished_stops end h
+  pieces_stop end h (Unfinished text ∷ pieces) k more args = unfinished_stops end h
   pieces_stop end h (Specified c ∷ pieces) k more args =
-      convert_stops (conversion_of c) c k more args (λ j rest. pieces_text s end pieces j rest)
+      convert_stops (conversion_of c) c k more args (λ j rest. printed_from s end pieces j rest)
       (λ j behind rest. pieces_stop end h pieces j behind rest)
 
   pub printed_stops : (format : Characters) → Stops (RuleStop s) format.stop → (args : List Arg)
       → Stops PrintStop (printed s format args).stop
-  printed_stops format h args =
-      pieces_stop format.stop h (pieces_within (length format.list) format.list) 2 (omega arith) args
+  printed_stops format h args = pieces_stop format.stop h (pieces_of format.list) 2 (omega arith) args

@@ -1,8 +1,8 @@
 -- The conversion specifications of a format (7.21.6.1p3 to p8), in the profile of this project: no `#`, no space, no
 -- `*`, a precision for strings alone, no length modifiers j and t, and the conversions d, i, u, x, X, o, c, s and %.
-use Rattle.std.specs.Prelude.{ℕ, zero, suc, ◌==◌, nat_lt, not, ◌&&◌, ◌||◌, Bool, true, false, List, [], ◌∷◌, take, drop}
-use Rattle.std.specs.Prelude.{Option, Some, None, is_some, codes, if◌then◌else◌}
-use Rattle.std.specs.List.{list_any, prefix_len}
+use Rattle.std.specs.Prelude.{ℕ, zero, suc, ◌==◌, ◌++◌, length, nat_lt, not, ◌&&◌, ◌||◌, Bool, true, false, List, []}
+use Rattle.std.specs.Prelude.{◌∷◌, take, drop, Option, Some, None, is_some, codes, if◌then◌else◌}
+use Rattle.std.specs.List.{list_any, prefix_len, flat_map}
 use Rattle.std.specs.Option.{option_map_or}
 use Rattle.std.specs.Str.Parse.{digits_value}
 
@@ -23,6 +23,10 @@ pub record Specification : Type 0 where
   pub precision : Option (List ℕ)
   pub modifier : Modifier
   pub letter : ℕ
+
+-- `%`
+abbrev pub percent : ℕ
+percent = 37
 
 -- the character is one of these
 abbrev pub among : List ℕ → ℕ → Bool
@@ -61,16 +65,17 @@ modifier_of text =
     if begins_with (codes "l") text then L else
     if begins_with (codes "z") text then Z else Bare
 
-abbrev pub characters_of : Modifier → ℕ
-characters_of Bare = 0
-characters_of Hh = 2
-characters_of H = 1
-characters_of L = 1
-characters_of Ll = 2
-characters_of Z = 1
+-- how it is spelled
+abbrev pub modifier_text : Modifier → List ℕ
+modifier_text Bare = []
+modifier_text Hh = codes "hh"
+modifier_text H = codes "h"
+modifier_text L = codes "l"
+modifier_text Ll = codes "ll"
+modifier_text Z = codes "z"
 
 abbrev pub after_modifier : List ℕ → List ℕ
-after_modifier text = drop (characters_of (modifier_of text)) text
+after_modifier text = drop (length (modifier_text (modifier_of text))) text
 
 -- a specification and the text behind it
 pub record Read : Type 0 where
@@ -112,7 +117,7 @@ pub data Conversion : Type 0 where
 
 abbrev pub named_conversion : ℕ → Option Conversion
 named_conversion letter =
-    if among (codes "%") letter then Some Percent else
+    if letter == percent then Some Percent else
     if among (codes "di") letter then Some (Takes Signed) else
     if among (codes "u") letter then Some (Takes (Unsigned 10 false)) else
     if among (codes "x") letter then Some (Takes (Unsigned 16 false)) else
@@ -171,20 +176,40 @@ well_formed (Some conversion) c = if is_well_formed conversion c then Some conve
 abbrev pub conversion_of : Specification → Option Conversion
 conversion_of c = well_formed (named_conversion c.letter) c
 
--- The pieces of a format: ordinary characters, specifications, and one that the format ends within.
+-- The pieces of a format: ordinary characters, specifications behind their `%`, and the text behind a last `%` that the
+-- format ends within.
 pub data Piece : Type 0 where
   Ordinary : (character : ℕ) → Piece
   Specified : Specification → Piece
-  Unfinished : Piece
+  Unfinished : (text : List ℕ) → Piece
 
-abbrev pub piece_then : Option Read → (List ℕ → List Piece) → List Piece
-piece_then None go = Unfinished ∷ []
-piece_then (Some read) go = Specified read.specification ∷ go read.rest
+abbrev pub piece_then : Option Read → List ℕ → (List ℕ → List Piece) → List Piece
+piece_then None text go = Unfinished text ∷ []
+piece_then (Some read) text go = Specified read.specification ∷ go read.rest
 
 -- at most so many pieces
 abbrev pub pieces_within : ℕ → List ℕ → List Piece
 pieces_within zero text = []
 pieces_within (suc n) [] = []
 pieces_within (suc n) (c ∷ text) =
-    if among (codes "%") c then piece_then (read_specification text) (λ rest. pieces_within n rest)
+    if c == percent then piece_then (read_specification text) text (λ rest. pieces_within n rest)
     else Ordinary c ∷ pieces_within n text
+
+abbrev pub pieces_of : List ℕ → List Piece
+pieces_of format = pieces_within (length format) format
+
+-- How pieces are spelled: a format is its pieces, one behind the other.
+abbrev pub precision_text : Option (List ℕ) → List ℕ
+precision_text None = []
+precision_text (Some digits) = codes "." ++ digits
+
+abbrev pub specification_text : Specification → List ℕ
+specification_text c = c.flags ++ c.width ++ precision_text c.precision ++ modifier_text c.modifier ++ c.letter ∷ []
+
+abbrev pub piece_text : Piece → List ℕ
+piece_text (Ordinary c) = c ∷ []
+piece_text (Specified c) = percent ∷ specification_text c
+piece_text (Unfinished text) = percent ∷ text
+
+abbrev pub pieces_text : List Piece → List ℕ
+pieces_text pieces = flat_map piece_text pieces

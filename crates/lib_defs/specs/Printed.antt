@@ -22,7 +22,7 @@ use Rattle.lib_defs.specs.RowTable.{modulo_byte}
 use Rattle.lib_defs.specs.Characters.{Characters, ended_by, behind, characters_at, whole}
 use Rattle.lib_defs.specs.Conversions.{Modifier, Bare, Hh, H, L, Ll, Z, Specification, has_flag, Form, Signed}
 use Rattle.lib_defs.specs.Conversions.{Unsigned, Character, String, Conversion, Percent, Takes, conversion_of, Piece}
-use Rattle.lib_defs.specs.Conversions.{Ordinary, Specified, Unfinished, pieces_within}
+use Rattle.lib_defs.specs.Conversions.{Ordinary, Specified, Unfinished, percent, pieces_of}
 
 -- A text with its sign, padded to the width: on the right with spaces, on the left with zeros behind the sign, or on
 -- the left with spaces. `-` overrules `0` (p6).
@@ -132,21 +132,20 @@ write_then (Stuck stop) go = ended_by (Some stop)
 abbrev pub convert_then : Storage → Option Conversion → Specification → ℕ → List Arg → (ℕ → List Arg → Characters)
     → Characters
 convert_then s None c k args go = ended_by (Some (IsUndefined U09))
-convert_then s (Some Percent) c k args go = behind (codes "%") (go k args)
+convert_then s (Some Percent) c k args go = behind (percent ∷ []) (go k args)
 convert_then s (Some (Takes form)) c k [] go = ended_by (Some (FailsArgument k))
 convert_then s (Some (Takes form)) c k (a ∷ args) go =
     write_then (argument_text s form c k a) (λ u. go (k + 1) args)
 
 -- the text of the pieces of a format that ends so
-abbrev pub pieces_text : Storage → Option Stop → List Piece → ℕ → List Arg → Characters
-pieces_text s end [] k args = ended_by end
-pieces_text s end (Ordinary c ∷ pieces) k args = behind (c ∷ []) (pieces_text s end pieces k args)
-pieces_text s end (Unfinished ∷ pieces) k args = ended_by (Some (unwrap_or end (IsUndefined U09)))
-pieces_text s end (Specified c ∷ pieces) k args =
-    convert_then s (conversion_of c) c k args (λ j rest. pieces_text s end pieces j rest)
+abbrev pub printed_from : Storage → Option Stop → List Piece → ℕ → List Arg → Characters
+printed_from s end [] k args = ended_by end
+printed_from s end (Ordinary c ∷ pieces) k args = behind (c ∷ []) (printed_from s end pieces k args)
+printed_from s end (Unfinished text ∷ pieces) k args = ended_by (Some (unwrap_or end (IsUndefined U09)))
+printed_from s end (Specified c ∷ pieces) k args =
+    convert_then s (conversion_of c) c k args (λ j rest. printed_from s end pieces j rest)
 
 -- The text that a format gives with the arguments behind it, of which the first is printf's second. The format is read
 -- as it is printed, so what stands before a stop comes out.
 abbrev pub printed : Storage → Characters → List Arg → Characters
-printed s format args =
-    pieces_text s format.stop (pieces_within (length format.list) format.list) 2 args
+printed s format args = printed_from s format.stop (pieces_of format.list) 2 args

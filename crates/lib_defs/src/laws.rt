@@ -10,6 +10,7 @@ ghost use Rattle.lib_defs.specs.Library.{values_of};
 ghost use Rattle.lib_defs.specs.Laws.{IsSized, CallFits, KeepsLaws};
 ghost use Rattle.lib_defs.specs.RuleLaws.{RuleKeeps};
 ghost use Rattle.lib_defs.specs.Characters.{AreRead, characters_from};
+ghost use Rattle.lib_defs.specs.Conversions.{pieces_of, pieces_text};
 ghost use Rattle.lib_defs.specs.Profile.{profile};
 ghost use Rattle.lib_defs.specs.Sample.{sample};
 
@@ -50,6 +51,11 @@ pub fn characters_law()
     ensures is { (s : _) (p : _) (k : _) (most : _) → AreRead s p k most (characters_from s p k most) }
     ensures alone { (s : _) (p : _) (k : _) (most : _) (c : _)
         → AreRead s p k most c → characters_from s p k most ≡ c }
+{}
+
+/// A format is its pieces, one behind the other: what is printed leaves nothing of it out (7.21.6.1).
+pub fn format_law()
+    ensures { (format : _) → pieces_text (pieces_of format) ≡ format }
 {}
 
 /// The message of each class stands in the message object of each store.
