@@ -11,7 +11,7 @@ use Rattle.object_store.specs.Object.{Object}
 use Rattle.object_store.specs.Storage.{Storage, live_bytes}
 use Rattle.object_store.specs.Steps.{stored_cell, bytes_at, cells_of, with_dead, with_store}
 use Rattle.lib_defs.specs.declared.value.Value.TheVariants.{Ptr, Nothing}
-use Rattle.lib_defs.specs.Reply.{Patch, Change, no_change, Did, Done, Fails, FailsValue, null, with_change}
+use Rattle.lib_defs.specs.Reply.{Patch, Change, no_change, Did, Done, Fails, FailsValue, null, with_change, store_after}
 use Rattle.lib_defs.specs.Rules.{done_with}
 use Rattle.lib_defs.specs.Allocation.{malloc_did, calloc_did, realloc_did, free_did}
 use Rattle.lib_defs.proofs.ExampleStore.{object, at, known, unset}
@@ -73,6 +73,33 @@ malloc_great = refl
 
 malloc_greater : malloc_did (within 268435456 []) 16777217 ≡ none
 malloc_greater = refl
+
+-- of main alone 256 bytes are live: with a budget of 340, 84 more are the last; with 339 they are refused, and one byte
+-- fits then
+abbrev start : ℕ → Storage
+start budget = record { objects = message_object ∷ []; budget = budget; open_calls = 1; writes = [] }
+
+start_last : malloc_did (start 340) 84 ≡ made 5 84 [] None
+unfolding live_bytes
+start_last = refl
+
+start_full : malloc_did (store_after (malloc_did (start 340) 84) (start 340)) 1 ≡ none
+unfolding live_bytes
+start_full = refl
+
+start_past : malloc_did (start 339) 84 ≡ none
+unfolding live_bytes
+start_past = refl
+
+start_fits : malloc_did (store_after (malloc_did (start 339) 84) (start 339)) 1 ≡ made 5 1 [] None
+unfolding live_bytes
+start_fits = refl
+
+-- int *p = calloc(2, 4); p = realloc(p, 12);
+start_grows : realloc_did (store_after (calloc_did (start 400) 2 4) (start 400)) (at 5 0 8) 12
+    ≡ made 7 12 (bytes 7 12 (replicate 8 (Some 0))) (Some 5)
+unfolding live_bytes with_store
+start_grows = refl
 
 -- calloc: the product, which is exact
 calloc_some : calloc_did (within 400 []) 2 3 ≡ made 7 6 (zeros 7 6) None

@@ -81,6 +81,11 @@ print_widths : print (codes "%5d|%05d|%-5d|%-05d|%2d")
 unfolding digits
 print_widths = refl
 
+print_columns : print (codes "%3d numbers, sum %d\n") (int (pos 3) ∷ int (pos 6) ∷ [])
+    ≡ text (codes "  3 numbers, sum 6\n")
+unfolding digits
+print_columns = refl
+
 -- strings: precision and width
 print_strings : print (codes "%s|%.s|%.0s|%.5s|%5.1s|%-3.2s|")
     (string s ∷ string s ∷ string s ∷ string s ∷ string s ∷ string s ∷ [])
