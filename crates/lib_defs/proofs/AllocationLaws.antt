@@ -34,7 +34,7 @@ use Rattle.lib_defs.specs.Profile.{plain_did, plain_or}
 use Rattle.lib_defs.specs.Laws.{first_pointer, HasForm, IfReleased, RowStopFits}
 use Rattle.lib_defs.specs.Laws.{AreReached}
 use Rattle.lib_defs.proofs.AnnexRows.{has_form}
-use Rattle.lib_defs.proofs.PlainCalls.{Fits, Undecided, answer_fits}
+use Rattle.lib_defs.proofs.PlainCalls.{Fits, FitsAny, Undecided, answer_fits}
 use Rattle.lib_defs.proofs.NewObjects.{new_reached}
 
 -- an object that can be made
@@ -121,7 +121,7 @@ module _ (row : Row) (args : List Arg) (w : World) (keeps : Rest → Bool) where
       next (record { live = h.1; allocated = grind (arith, common_steps, h.0); first = refl })
 
   pub realloc_fits : name_at row ≡ Some n.Realloc
-      → Fits row args w keeps (plain_or (plain_did n.Realloc (values_of args) w.store) n.Realloc args w)
+      → FitsAny row args w keeps (plain_or (plain_did n.Realloc (values_of args) w.store) n.Realloc args w)
   realloc_fits named =
       let s : Storage = w.store in
       let p : Pointer = first_pointer args in
@@ -138,7 +138,7 @@ module _ (row : Row) (args : List Arg) (w : World) (keeps : Rest → Bool) where
       (Some p.object) released)
 
   pub free_fits : name_at row ≡ Some n.Free
-      → Fits row args w keeps (plain_or (plain_did n.Free (values_of args) w.store) n.Free args w)
+      → FitsAny row args w keeps (plain_or (plain_did n.Free (values_of args) w.store) n.Free args w)
   free_fits named =
       let form : HasForm row args Nothing = has_form row args n.Free named Nothing (λ fit. tt) in
       release_fits n.Free named

@@ -1,5 +1,5 @@
 -- Rows that decide nothing by the values of a line answer their calls.
-use Rattle.std.proofs.Common.{◌≡◌, Bool, true, List}
+use Rattle.std.proofs.Common.{◌≡◌, Bool, true, List, Option, Some, None}
 use Rattle.std.proofs.Common.{Some, None, arith}
 use Rattle.lib_defs.specs.declared.row.Row.{Row}
 use Rattle.lib_defs.specs.declared.row_name.RowName.{RowName}
@@ -22,6 +22,10 @@ module _ (row : Row) (args : List Arg) (w : World) (keeps : Rest → Bool) where
   -- the answer fits its call
   abbrev pub Fits : Reply → Type 0
   Fits reply = CallFits keeps row args w reply.streams reply.did
+
+  abbrev pub FitsAny : Option Reply → Type 0
+  FitsAny None = Unit {0}
+  FitsAny (Some reply) = Fits reply
 
   -- a row of no table of constraints decides nothing by its values
   abbrev pub Undecided : Type 0

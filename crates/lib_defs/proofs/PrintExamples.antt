@@ -81,6 +81,11 @@ print_widths : print (codes "%5d|%05d|%-5d|%-05d|%2d")
 unfolding digits
 print_widths = refl
 
+print_plus : print (codes "%+05d|%+5d|%-+5d|%5c|") (int (pos 7) ∷ int (pos 7) ∷ int (pos 7) ∷ int (pos 120) ∷ [])
+    ≡ text (codes "+0007|   +7|+7   |    x|")
+unfolding digits
+print_plus = refl
+
 print_columns : print (codes "%3d numbers, sum %d\n") (int (pos 3) ∷ int (pos 6) ∷ [])
     ≡ text (codes "  3 numbers, sum 6\n")
 unfolding digits

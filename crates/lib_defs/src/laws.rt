@@ -11,7 +11,7 @@ ghost use Rattle.lib_defs.specs.Laws.{IsSized, CallFits, KeepsLaws};
 ghost use Rattle.lib_defs.specs.RuleLaws.{RuleKeeps};
 ghost use Rattle.lib_defs.specs.Characters.{AreRead, characters_from};
 ghost use Rattle.lib_defs.specs.Conversions.{pieces_of, pieces_text};
-ghost use Rattle.lib_defs.specs.Profile.{profile};
+ghost use Rattle.lib_defs.specs.Profile.{HasAll, profile};
 ghost use Rattle.lib_defs.specs.Sample.{sample};
 
 /// The row that a name finds has that name, and each name finds one.
@@ -34,10 +34,11 @@ pub fn rows_law()
         → CallFits waits row args w streams (run_rule rule w.store) }
 {}
 
-/// The library of the profile, which has all functions with a name, keeps the laws that every library keeps: at all
+/// The library of the profile keeps the laws that every library keeps, and has all functions with a name: at all
 /// arguments and in all worlds.
 pub fn profile_law()
-    ensures { KeepsLaws profile }
+    ensures keeps { KeepsLaws profile }
+    ensures all { HasAll }
 {}
 
 /// A row that wants a guest's function can keep them too: there is a library with one, beside those of the profile.
