@@ -1,20 +1,20 @@
 -- Runs of the memory management functions, on either side of each rule.
-use Rattle.std.proofs.Common.{◌≡◌, ℕ, List, [], ◌∷◌, ◌++◌, Option, Some, None, refl}
-use Rattle.std.specs.Prelude.{true, false, replicate}
+use Rattle.std.proofs.Common.{◌≡◌, ℕ, List, [], ◌∷◌, Option, Some, None, refl}
+use Rattle.std.specs.Prelude.{true, replicate}
 use Rattle.critical_table.specs.declared.case.Case.{Case}
 use Rattle.critical_table.specs.declared.case.Case.TheVariants.{L9, L11}
-use Rattle.object_store.specs.declared.class.Class.TheVariants.{Automatic, Allocated}
+use Rattle.object_store.specs.declared.class.Class.TheVariants.{Allocated}
 use Rattle.object_store.specs.declared.mark.Mark.TheVariants.{Plain}
 use Rattle.object_store.specs.declared.pointer.Pointer.{Pointer}
 use Rattle.object_store.specs.Messages.{message_object}
 use Rattle.object_store.specs.Object.{Object}
 use Rattle.object_store.specs.Storage.{Storage, live_bytes}
-use Rattle.object_store.specs.Steps.{stored_cell, bytes_at, cells_of, with_dead, with_store}
+use Rattle.object_store.specs.Steps.{stored_cell, bytes_at, with_dead, with_store}
 use Rattle.lib_defs.specs.declared.value.Value.TheVariants.{Ptr, Nothing}
-use Rattle.lib_defs.specs.Reply.{Patch, Change, no_change, Did, Done, Fails, FailsValue, null, with_change, store_after}
+use Rattle.lib_defs.specs.Reply.{Patch, no_change, Did, Done, Fails, FailsValue, null, with_change, store_after}
 use Rattle.lib_defs.specs.Rules.{done_with}
 use Rattle.lib_defs.specs.Allocation.{malloc_did, calloc_did, realloc_did, free_did}
-use Rattle.lib_defs.proofs.ExampleStore.{object, at, known, unset}
+use Rattle.lib_defs.proofs.ExampleStore.{object, at, unset}
 
 -- an automatic object 4 of 4 bytes, and a call that is open: 260 bytes are live
 abbrev within : ℕ → List Object → Storage

@@ -1,13 +1,13 @@
 -- A format is its pieces, one behind the other.
-use Rattle.std.proofs.Common.{◌≡◌, ℕ, zero, suc, ◌+◌, ◌==◌, ◌≤◌, ◌&&◌, Bool, true, false, cond, List, [], ◌∷◌, ◌++◌}
-use Rattle.std.proofs.Common.{length, take, drop, Option, Some, None, refl, sym, ap, subst, ◌∙◌, append-nil, arith}
+use Rattle.std.proofs.Common.{◌≡◌, ℕ, zero, suc, ◌+◌, ◌==◌, ◌≤◌, Bool, true, false, cond, List, [], ◌∷◌, ◌++◌}
+use Rattle.std.proofs.Common.{length, drop, Option, Some, None, refl, sym, ap, subst, ◌∙◌, append-nil, arith}
 use Rattle.std.specs.Prelude.{codes}
-use Rattle.std.specs.List.{prefix_len, flat_map}
+use Rattle.std.specs.List.{prefix_len}
 use Rattle.std.proofs.lemmas.Bool.{and_parts}
 use Rattle.std.proofs.lemmas.List.{append_assoc, length-append, take-append-drop}
 use Rattle.std.proofs.lemmas.Option.{same_Some}
 use Rattle.std.proofs.lemmas.Grind.{common_steps}
-use Rattle.lib_defs.specs.Conversions.{Modifier, Bare, Hh, H, L, Ll, Z, Specification, front, after, is_flag, is_digit}
+use Rattle.lib_defs.specs.Conversions.{Modifier, Bare, Hh, H, L, Ll, Z, front, after, is_flag, is_digit}
 use Rattle.lib_defs.specs.Conversions.{begins_with, precision_of, after_precision, modifier_of, modifier_text}
 use Rattle.lib_defs.specs.Conversions.{after_modifier, Read, read_letter, read_specification, Ordinary, piece_then}
 use Rattle.lib_defs.specs.Conversions.{pieces_within, pieces_of, precision_text, specification_text, percent}

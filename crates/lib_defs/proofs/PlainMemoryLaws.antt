@@ -20,6 +20,7 @@ use Rattle.lib_defs.specs.PlainMemory.{memory_order_did, memory_find_did}
 use Rattle.lib_defs.specs.Laws.{IsSized}
 use Rattle.lib_defs.proofs.Parts.{size_exact}
 use Rattle.lib_defs.proofs.RuleLemmas.{span_fits, bytes_long, stores_reached}
+use Rattle.lib_defs.proofs.Forms.{int_given}
 use Rattle.lib_defs.proofs.PlainFits.{PlainFits, Sees, sees_fits, sees_look, sees_known, fits_reach, fits_look}
 use Rattle.lib_defs.proofs.PlainFits.{fits_unless}
 use Rattle.lib_defs.proofs.PlainFits.{fits_stores, fits_answer, length-equal_units}
@@ -33,10 +34,10 @@ AnyInt n = IsGiven int (Num n)
 
 pub order_given : (less : Bool) → AnyInt (order less)
 order_given true = record { least = omega (arith, ints); greatest = omega (arith, ints) }
-order_given false = record { least = omega (arith, ints); greatest = omega (arith, ints) }
+order_given false = int_given 1 (omega arith)
 
 pub equal_given : AnyInt (pos 0)
-equal_given = record { least = omega (arith, ints); greatest = omega (arith, ints) }
+equal_given = int_given 0 (omega arith)
 
 module _ (s : Storage) where
   copies_reached : (w n : ℕ) (s1 s2 : Pointer) → reach s s2 (size w n) w TextRead ≡ None

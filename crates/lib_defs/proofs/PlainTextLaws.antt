@@ -2,7 +2,6 @@
 use Rattle.std.proofs.Common.{◌≡◌, ℕ, zero, suc, ◌+◌, ◌-◌, ◌*◌, ◌==◌, ◌<◌, ◌≤◌, Bool, true, false, cond, List, [], ◌∷◌}
 use Rattle.std.proofs.Common.{length, replicate, Option, Some, None, refl, sym, subst, arith}
 use Rattle.std.specs.Prelude.{ℤ, pos, int_lt}
-use Rattle.std.proofs.lemmas.Int.{ints}
 use Rattle.std.proofs.lemmas.List.{length-replicate}
 use Rattle.object_store.specs.declared.by.By.TheVariants.{TextRead, TextWrite}
 use Rattle.object_store.specs.declared.pointer.Pointer.{Pointer}
@@ -30,6 +29,7 @@ use Rattle.lib_defs.proofs.RuleSuccess.{length_of, size_within}
 use Rattle.lib_defs.proofs.WholeTexts.{span_reached, span_within}
 use Rattle.lib_defs.proofs.TextLaws.{text_fits}
 use Rattle.lib_defs.proofs.PartLaws.{units_long, ended_reached}
+use Rattle.lib_defs.proofs.Forms.{size_given}
 use Rattle.lib_defs.proofs.PlainFits.{PlainFits, Sees, sees_fits, sees_look, sees_known, sees_range, fits_reach}
 use Rattle.lib_defs.proofs.PlainFits.{fits_look}
 use Rattle.lib_defs.proofs.PlainFits.{fits_unless, fits_stores, fits_answer, string_short}
@@ -55,8 +55,7 @@ module _ (s : Storage) (sized : IsSized s) where
 
   pub length_fits : (w : ℕ) → 0 < w → (p : Pointer) → PlainFits (IsGiven size_t) s (length_did w s p)
   length_fits w some p = with_string (IsGiven size_t) w some p _ (λ k e less.
-      fits_answer (IsGiven size_t) s (Num (pos k))
-      (record { least = omega (arith, ints); greatest = omega (arith, ints, less) }))
+      fits_answer (IsGiven size_t) s (Num (pos k)) (size_given k (omega (arith, less))))
 
   -- the units of a string with its null, where their destination is reached
   string_reached : (w : ℕ) → 0 < w → (to from : Pointer) (k : ℕ) → text w s from (rsize_max + 1) ≡ Length k

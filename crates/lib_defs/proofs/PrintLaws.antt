@@ -1,8 +1,8 @@
 -- The functions that read a text and write it stop as the laws say.
-use Rattle.std.proofs.Common.{◌≡◌, ℕ, zero, suc, ◌+◌, ◌<◌, ◌≤◌, Bool, true, false, cond, List, [], ◌∷◌, length}
+use Rattle.std.proofs.Common.{◌≡◌, ℕ, zero, suc, ◌+◌, ◌<◌, ◌≤◌, Bool, true, false, cond, List, [], ◌∷◌}
 use Rattle.std.proofs.Common.{Option, Some, None}
 use Rattle.std.proofs.Common.{refl, arith}
-use Rattle.std.specs.Prelude.{ℤ, pos, nat_le, ◌-ℤ◌, ◌%◌, unwrap_or}
+use Rattle.std.specs.Prelude.{pos, nat_le, ◌-ℤ◌, ◌%◌, unwrap_or}
 use Rattle.std.proofs.lemmas.Int.{ints}
 use Rattle.std.proofs.lemmas.Grind.{common_steps}
 use Rattle.acc_num.specs.declared.kind.IntKind.TheVariants.{I32}

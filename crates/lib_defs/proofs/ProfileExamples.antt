@@ -12,7 +12,6 @@ use Rattle.object_store.specs.declared.pointer.Pointer.{Pointer}
 use Rattle.object_store.specs.Messages.{message_bytes}
 use Rattle.object_store.specs.Storage.{Storage}
 use Rattle.object_store.specs.Reach.{reach_table}
-use Rattle.lib_defs.specs.declared.handler.Handler.{Handler}
 use Rattle.lib_defs.specs.declared.row_name.RowName.{RowName}
 use Rattle.lib_defs.specs.declared.row_name.RowName.TheVariants as n
 use Rattle.lib_defs.specs.declared.value.Arg.{Arg}
@@ -25,7 +24,7 @@ use Rattle.lib_defs.specs.Reply.{Did, Fails, FailsReach, FailsArgument, IsUndefi
 use Rattle.lib_defs.specs.Rules.{done_with}
 use Rattle.lib_defs.specs.StreamRows.{reply_with, gives}
 use Rattle.lib_defs.specs.Profile.{profile, reply_of}
-use Rattle.lib_defs.specs.World.{Ending, AtEnd, Broken, Streams, World, Reply}
+use Rattle.lib_defs.specs.World.{Ending, AtEnd, Broken, World, Reply}
 use Rattle.lib_defs.proofs.ExampleStore.{object, store, at, known, text_bytes}
 
 -- a format, a string, and three characters without a null

@@ -1,5 +1,5 @@
 -- The library of the profile keeps the laws.
-use Rattle.std.proofs.Common.{◌≡◌, ℕ, ◌+◌, ◌*◌, ◌<◌, Bool, false, List, [], ◌∷◌, drop, Option, Some, None, refl, arith}
+use Rattle.std.proofs.Common.{◌≡◌, ℕ, ◌+◌, ◌*◌, Bool, false, List, [], ◌∷◌, drop, Option, Some, None, refl}
 use Rattle.std.specs.Prelude.{ℤ, unwrap_or}
 use Rattle.object_store.specs.declared.pointer.Pointer.{Pointer}
 use Rattle.object_store.specs.Storage.{Storage}
@@ -10,7 +10,7 @@ use Rattle.lib_defs.specs.declared.step.Rest.{Rest}
 use Rattle.lib_defs.specs.declared.value.Arg.{Arg}
 use Rattle.lib_defs.specs.declared.value.Value.{Value}
 use Rattle.lib_defs.specs.declared.value.Value.TheVariants.{Ptr, Nothing}
-use Rattle.lib_defs.specs.Units.{rsize_max, byte_unit, wide_unit, wide_number}
+use Rattle.lib_defs.specs.Units.{byte_narrow, wide_narrow, rsize_max, byte_unit, wide_unit, wide_number}
 use Rattle.lib_defs.specs.RowNumbers.{name_at}
 use Rattle.lib_defs.specs.Prototypes.{IsGiven, prototype}
 use Rattle.lib_defs.specs.Reply.{Did}
@@ -53,12 +53,6 @@ module _ (row : Row) (args : List Arg) (w : World) (keeps : Rest → Bool) where
   abbrev i : ℕ → ℤ
   i k = num (values_of args) k
 
-  narrow : 0 < 1
-  narrow = omega arith
-
-  wide : 0 < 4
-  wide = omega arith
-
   plain : (name : RowName) → name_at row ≡ Some name → Undecided row args w keeps → (d : Did)
       → PlainFits (IsGiven (prototype name).gives) s d → Fits row args w keeps (reply_with w d)
   plain name named passes d h = plain_fits row args w keeps name named passes d h
@@ -93,22 +87,22 @@ module _ (row : Row) (args : List Arg) (w : World) (keeps : Rest → Bool) where
       (memory_find_fits s (p 0) (modulo_byte (i 1)) (c 2))
   other_fits n.Strlen named is =
       plain n.Strlen named (rw named refl) (length_did 1 s (p 0))
-      (length_fits s is.sized 1 narrow (p 0))
+      (length_fits s is.sized 1 byte_narrow.0 (p 0))
   other_fits n.Wcslen named is =
       plain n.Wcslen named (rw named refl) (length_did 4 s (p 0))
-      (length_fits s is.sized 4 wide (p 0))
+      (length_fits s is.sized 4 wide_narrow.0 (p 0))
   other_fits n.Strcpy named is =
       plain n.Strcpy named (rw named refl) (text_copy_did 1 s (p 0) (p 1))
-      (text_copy_fits s is.sized 1 narrow (p 0) (p 1))
+      (text_copy_fits s is.sized 1 byte_narrow.0 (p 0) (p 1))
   other_fits n.Wcscpy named is =
       plain n.Wcscpy named (rw named refl) (text_copy_did 4 s (p 0) (p 1))
-      (text_copy_fits s is.sized 4 wide (p 0) (p 1))
+      (text_copy_fits s is.sized 4 wide_narrow.0 (p 0) (p 1))
   other_fits n.Strcat named is =
       plain n.Strcat named (rw named refl) (append_did 1 s (p 0) (p 1))
-      (append_fits s is.sized 1 narrow (p 0) (p 1))
+      (append_fits s is.sized 1 byte_narrow.0 (p 0) (p 1))
   other_fits n.Wcscat named is =
       plain n.Wcscat named (rw named refl) (append_did 4 s (p 0) (p 1))
-      (append_fits s is.sized 4 wide (p 0) (p 1))
+      (append_fits s is.sized 4 wide_narrow.0 (p 0) (p 1))
   other_fits n.Strncpy named is =
       plain n.Strncpy named (rw named refl) (part_copy_did s (p 0) (p 1) (c 2))
       (part_copy_fits s is.sized (p 0) (p 1) (c 2))

@@ -126,13 +126,14 @@ named_conversion letter =
     if among (codes "c") letter then Some (Takes Character) else
     if among (codes "s") letter then Some (Takes String) else None
 
--- What a specification may not have.
+-- a flag stands twice
 abbrev pub has_twice : List ℕ → Bool
 has_twice [] = false
 has_twice (f ∷ flags) = among flags f || has_twice flags
 
+-- one of these flags stands
 abbrev pub has_flag : List ℕ → Specification → Bool
-has_flag flag c = list_any (λ f. among flag f) c.flags
+has_flag wanted c = list_any (λ flag. among wanted flag) c.flags
 
 abbrev pub has_modifier : Modifier → Bool
 has_modifier Bare = false
@@ -153,6 +154,7 @@ is_empty _ = false
 abbrev pub is_alone : Specification → Bool
 is_alone c = is_empty c.flags && (is_empty c.width && (not (is_some c.precision) && not (has_modifier c.modifier)))
 
+-- what a specification of each form may have
 abbrev pub may_have : Form → Specification → Bool
 may_have Signed c = not (is_some c.precision)
 may_have (Unsigned base upper) c = not (is_some c.precision)
@@ -163,6 +165,7 @@ abbrev pub may_stand : Conversion → Specification → Bool
 may_stand Percent c = is_alone c
 may_stand (Takes form) c = may_have form c
 
+-- and of each: no flag twice, no width or precision above the greatest
 abbrev pub is_well_formed : Conversion → Specification → Bool
 is_well_formed conversion c =
     not (has_twice c.flags)

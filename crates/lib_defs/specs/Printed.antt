@@ -24,13 +24,21 @@ use Rattle.lib_defs.specs.Conversions.{Modifier, Bare, Hh, H, L, Ll, Z, Specific
 use Rattle.lib_defs.specs.Conversions.{Unsigned, Character, String, Conversion, Percent, Takes, conversion_of, Piece}
 use Rattle.lib_defs.specs.Conversions.{Ordinary, Specified, Unfinished, percent, pieces_of}
 
+-- what fills a width
+abbrev pub space : ℕ
+space = 32
+
+abbrev pub zero_digit : ℕ
+zero_digit = 48
+
 -- A text with its sign, padded to the width: on the right with spaces, on the left with zeros behind the sign, or on
 -- the left with spaces. `-` overrules `0` (p6).
 abbrev pub padded : Specification → (sign text : List ℕ) → List ℕ
 padded c sign text =
     let fill : ℕ = digits_value 10 c.width - (length sign + length text) in
-    if has_flag (codes "-") c then sign ++ text ++ replicate fill 32 else
-    if has_flag (codes "0") c then sign ++ replicate fill 48 ++ text else replicate fill 32 ++ sign ++ text
+    if has_flag (codes "-") c then sign ++ text ++ replicate fill space else
+    if has_flag (codes "0") c then sign ++ replicate fill zero_digit ++ text else
+    replicate fill space ++ sign ++ text
 
 -- `+` acts on numbers with a sign
 abbrev pub sign_of : Specification → ℤ → List ℕ
