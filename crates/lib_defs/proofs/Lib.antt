@@ -23,6 +23,7 @@ pub mod PlainTextLaws
 pub mod Flows
 pub mod NewObjects
 pub mod CharacterLemmas
+pub mod WholeStrings
 pub mod FormatLemmas
 pub mod PrintLaws
 pub mod PlainCalls

@@ -1,5 +1,5 @@
 //! What holds of the rows of Annex K and of libraries.
-ghost use Rattle.std.specs.Prelude.{◌≡◌, Some, IsSome};
+ghost use Rattle.std.specs.Prelude.{◌≡◌, ◌+◌, ◌<◌, ◌≤◌, Some, IsSome};
 ghost use Rattle.std.specs.Option.{option_map};
 ghost use Rattle.lib_defs.specs.RowNumbers.{name_at, row_named};
 ghost use Rattle.lib_defs.specs.Names.{name_text};
@@ -9,7 +9,10 @@ ghost use Rattle.lib_defs.specs.Violations.{StandsThere};
 ghost use Rattle.lib_defs.specs.Library.{values_of};
 ghost use Rattle.lib_defs.specs.Laws.{IsSized, CallFits, KeepsLaws};
 ghost use Rattle.lib_defs.specs.RuleLaws.{RuleKeeps};
-ghost use Rattle.lib_defs.specs.Characters.{AreRead, characters_from};
+ghost use Rattle.lib_defs.specs.Units.{rsize_max};
+ghost use Rattle.lib_defs.specs.Text.{text};
+ghost use Rattle.lib_defs.specs.PlainTexts.{text_order};
+ghost use Rattle.lib_defs.specs.Characters.{AreRead, characters_from, characters_at, string_at};
 ghost use Rattle.lib_defs.specs.Conversions.{pieces_of, pieces_text};
 ghost use Rattle.lib_defs.specs.Profile.{HasAll, profile};
 ghost use Rattle.lib_defs.specs.Sample.{sample};
@@ -52,6 +55,17 @@ pub fn characters_law()
     ensures is { (s : _) (p : _) (k : _) (most : _) → AreRead s p k most (characters_from s p k most) }
     ensures alone { (s : _) (p : _) (k : _) (most : _) (c : _)
         → AreRead s p k most c → characters_from s p k most ≡ c }
+{}
+
+/// No object has more than RSIZE_MAX bytes, so what a string comes to does not depend on the bound that its reading is
+/// given, where that is greater: its length, its characters, and its order to another (7.1.1).
+pub fn strings_law()
+    ensures text { (s : _) (w : _) (p : _) (most : _) → IsSized s → 0 < w → rsize_max + 1 ≤ most
+        → text w s p most ≡ text w s p (rsize_max + 1) }
+    ensures characters { (s : _) (p : _) (most : _) → IsSized s → rsize_max + 1 ≤ most
+        → characters_at s p most ≡ string_at s p }
+    ensures order { (s : _) (value : _) (w : _) (p : _) (q : _) (most : _) → IsSized s → 0 < w → rsize_max + 1 ≤ most
+        → text_order value w s p q most ≡ text_order value w s p q (rsize_max + 1) }
 {}
 
 /// A format is its pieces, one behind the other: what is printed leaves nothing of it out (7.21.6.1).
