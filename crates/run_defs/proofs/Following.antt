@@ -1,6 +1,6 @@
 -- How the replay of a journal goes on, line by line, and what is kept over the evaluations of a unit's parts.
 use Rattle.std.proofs.Common.{◌≡◌, ℕ, zero, suc, ◌≤◌, ◌<◌, Bool, true, false, List, [], ◌∷◌, ◌++◌, length, Option, Some, None, refl}
-use Rattle.std.proofs.Common.{arith, ap, subst, sym, ◌∙◌}
+use Rattle.std.proofs.Common.{◌+◌, arith, ap, sym, ◌∙◌, length-append}
 use Rattle.std.specs.Prelude.{Result, Ok, Err}
 use Rattle.std.specs.Option.{option_and_then}
 use Rattle.std.proofs.lemmas.Bool.{le-leb, eq-eqb, and_from, or_left, cond-true, cond_both}
@@ -42,7 +42,8 @@ use Rattle.run_defs.specs.Replay.{with_phase, step, replay, at_start, IsLawful}
 use Rattle.run_defs.proofs.Outlines.{outlined_store, outlines-new, outlines-static, next_number-outlines, is_live-outlines}
 use Rattle.run_defs.proofs.Outlines.{has_range-outlines, outlines-dead, outlines-mark, reach-outlines, outlines-stored}
 use Rattle.run_defs.proofs.Outlines.{is_store-outlines}
-use Rattle.run_defs.proofs.Worlds.{sized_new, sized_static, sized_dead, sized_mark, sized_stored}
+use Rattle.run_defs.proofs.Worlds.{sized_new, sized_static, sized_dead, sized_mark, sized_stored, length-dead}
+use Rattle.run_defs.proofs.Worlds.{length-mark, length-stored}
 
 -- a journal is read in two parts
 append_found : (j1 j2 : List Event)
@@ -89,11 +90,17 @@ seen e flag s calls due = record {
   due = due;
 }
 
--- The open calls are these, but for whether the one on top has stored, and any line may stand next.
+-- the most objects that a run makes: their numbers are below those of functions
+abbrev pub most_objects : ℕ
+most_objects = 2004194305
+
+-- The open calls are these, but for whether the one on top has stored, and any line may stand next. Each object that
+-- may still be made takes a tick.
 pub record At (e : Environment) (s : State) (calls : List OpenCall) : Type 0 where
   pub flag : Bool
   pub reads : Reads s (seen e flag s calls AnyLine)
   pub world : IsWorld s.world
+  pub few : length s.world.store.objects + s.ticks ≤ most_objects
 
 -- the journal with this end is lawful
 abbrev pub Closes : Outcome → State → Type 0
@@ -127,9 +134,9 @@ is_its_case case found is = rw is (same_case_itself case)
 module _ (e : Environment) where
   -- Changes of the objects.
 
-  pub at_made : (s : State) (calls : List OpenCall) (size : ℕ) (class : Class) → 1 ≤ size → size ≤ rsize_max → At e s calls
-      → At e (made size class s) calls
-  at_made s calls size class some within a = record {
+  pub at_made : (s : State) (calls : List OpenCall) (size : ℕ) (class : Class) → 1 ≤ size → size ≤ rsize_max
+      → length s.world.store.objects + 1 + s.ticks ≤ most_objects → At e s calls → At e (made size class s) calls
+  at_made s calls size class some within room a = record {
     flag = a.flag;
     reads = reads_on s (event.Made (next_number s.world.store class) size class) (seen e a.flag s calls AnyLine) _ a.reads
         (cond-true _ _ _ (and_from _ _ (eq-eqb _ _ (sym (next_number-outlines s.world.store class)))
@@ -137,11 +144,12 @@ module _ (e : Environment) where
         ∙ ap (λ st. Some (record (seen e a.flag s calls AnyLine) { store = st }))
         (sym (outlines-new s.world.store.objects size class)));
     world = record { sized = sized_new s.world.store size class within a.world.sized; bytes = a.world.bytes };
+    few = rw length-append room;
   }
 
   pub at_static_made : (s : State) (calls : List OpenCall) (bytes : List ℕ) → 1 ≤ length bytes → length bytes ≤ rsize_max
-      → At e s calls → At e (static_made bytes s) calls
-  at_static_made s calls bytes some within a = record {
+      → length s.world.store.objects + 1 + s.ticks ≤ most_objects → At e s calls → At e (static_made bytes s) calls
+  at_static_made s calls bytes some within room a = record {
     flag = a.flag;
     reads = reads_on s (event.Made (next_number s.world.store Static) (length bytes) Static)
         (seen e a.flag s calls AnyLine) _ a.reads
@@ -150,6 +158,7 @@ module _ (e : Environment) where
         ∙ ap (λ st. Some (record (seen e a.flag s calls AnyLine) { store = st }))
         (sym (outlines-static s.world.store.objects bytes)));
     world = record { sized = sized_static s.world.store bytes within a.world.sized; bytes = a.world.bytes };
+    few = rw length-append room;
   }
 
   pub at_sealed : (s : State) (calls : List OpenCall) (number : ℕ) (seal : Seal) → At e s calls → At e (sealed number seal s) calls
@@ -164,6 +173,7 @@ module _ (e : Environment) where
           sized = sized_mark s.world.store number seal.at seal.len seal.mark a.world.sized;
           bytes = a.world.bytes;
         };
+        few = rw (length-mark s.world.store number seal.at seal.len seal.mark) a.few;
       })
       (λ no. a)
 
@@ -176,6 +186,7 @@ module _ (e : Environment) where
             ∙ ap (λ st. Some (record (seen e a.flag s calls AnyLine) { store = st }))
             (sym (outlines-dead s.world.store number)));
         world = record { sized = sized_dead s.world.store number a.world.sized; bytes = a.world.bytes };
+        few = rw (length-dead s.world.store number) a.few;
       })
       (λ dead. a)
 
@@ -189,6 +200,7 @@ module _ (e : Environment) where
         (cond-true _ _ _ (is_store-outlines s.world.store place (b ∷ bytes) reached (omega arith))
         ∙ rw (outlines-stored s.world.store place (b ∷ bytes) reached, store_flag a.flag calls) refl);
     world = record { sized = sized_stored s.world.store place (b ∷ bytes) reached a.world.sized; bytes = a.world.bytes };
+    few = rw (length-stored s.world.store.objects place (b ∷ bytes)) a.few;
   }
 
   pub at_patched : (s : State) (calls : List OpenCall) (p : Patch) → IsReachedToStore s.world.store p.place (length p.bytes)
@@ -247,19 +259,21 @@ module _ (e : Environment) where
   keeps_bind inner calls (Stops outcome s) next a go = a
 
   by_ticks : {B : Type 0} (inner calls : List OpenCall) (s : State) (ticks : ℕ) (next : Unit {0} → State → Evaluation B)
-      → At e s inner → ((left : ℕ) → Keeps e calls (next tt (record s { ticks = left })))
+      → At e s inner → ((left : ℕ) → suc left ≡ ticks → Keeps e calls (next tt (record s { ticks = left })))
       → Keeps e calls (bind (ticked_at ticks s) next)
   by_ticks inner calls s zero next a go = quiet_closes s inner OutOfTicks refl a
-  by_ticks inner calls s (suc left) next a go = go left
+  by_ticks inner calls s (suc left) next a go = go left refl
 
   pub keeps_tick : {B : Type 0} (inner calls : List OpenCall) (s : State) (next : Unit {0} → State → Evaluation B)
-      → At e s inner → ((left : ℕ) → Keeps e calls (next tt (record s { ticks = left })))
+      → At e s inner → ((left : ℕ) → suc left ≡ s.ticks → Keeps e calls (next tt (record s { ticks = left })))
       → Keeps e calls (bind (ticked s) next)
   keeps_tick inner calls s next a go = by_ticks inner calls s s.ticks next a go
 
   -- a tick changes nothing that a journal shows
-  pub at_tick : (s : State) (calls : List OpenCall) (left : ℕ) → At e s calls → At e (record s { ticks = left }) calls
-  at_tick s calls left a = record { flag = a.flag; reads = a.reads; world = a.world }
+  pub at_tick : (s : State) (calls : List OpenCall) (left : ℕ) → suc left ≡ s.ticks → At e s calls
+      → At e (record s { ticks = left }) calls
+  at_tick s calls left is a =
+      record { flag = a.flag; reads = a.reads; world = a.world; few = omega (arith, is, a.few) }
 
   by_room : {B : Type 0} (inner calls : List OpenCall) (s : State) (room : Bool) (next : Unit {0} → State → Evaluation B)
       → At e s inner → Keeps e calls (next tt s) → Keeps e calls (bind (within_if room s) next)
@@ -295,14 +309,24 @@ module _ (e : Environment) where
 
   pub automatic_keeps : (size : ℕ) (s : State) (calls : List OpenCall) → 1 ≤ size → size ≤ rsize_max → At e s calls
       → Keeps e calls (automatic_made size s)
-  automatic_keeps size s calls some within a = keeps_tick calls calls s _ a (λ left.
-      keeps_within calls calls size (record s { ticks = left }) _ (at_tick s calls left a)
-      (at_made (record s { ticks = left }) calls size Automatic some within (at_tick s calls left a)))
+  automatic_keeps size s calls some within a = keeps_tick calls calls s _ a (λ left is.
+      keeps_within calls calls size (record s { ticks = left }) _ (at_tick s calls left is a)
+      (at_made (record s { ticks = left }) calls size Automatic some within (omega (arith, is, a.few))
+      (at_tick s calls left is a)))
 
   pub entered_keeps : (s : State) (calls : List OpenCall) → At e s calls → Keeps e calls (call_entered s)
   entered_keeps s calls a = keeps_within calls calls 256 s _ a
-      (record { flag = a.flag; reads = a.reads; world = record { sized = a.world.sized; bytes = a.world.bytes } })
+      (record {
+        flag = a.flag;
+        reads = a.reads;
+        world = record { sized = a.world.sized; bytes = a.world.bytes };
+        few = a.few;
+      })
 
   pub at_left : (s : State) (calls : List OpenCall) → At e s calls → At e (call_left s) calls
-  at_left s calls a =
-      record { flag = a.flag; reads = a.reads; world = record { sized = a.world.sized; bytes = a.world.bytes } }
+  at_left s calls a = record {
+    flag = a.flag;
+    reads = a.reads;
+    world = record { sized = a.world.sized; bytes = a.world.bytes };
+    few = a.few;
+  }
