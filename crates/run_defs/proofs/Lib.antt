@@ -8,3 +8,4 @@ pub mod Outlines
 pub mod Worlds
 pub mod Following
 pub mod Starting
+pub mod RowFacts
