@@ -9,3 +9,4 @@ pub mod Worlds
 pub mod Following
 pub mod Starting
 pub mod RowFacts
+pub mod Serving

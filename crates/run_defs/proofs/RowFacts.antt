@@ -8,7 +8,7 @@ use Rattle.std.proofs.lemmas.Bool.Decides.{Decides-int_eq}
 use Rattle.std.proofs.lemmas.Slice.Eq.{bytes_eq-Decides}
 use Rattle.std.proofs.lemmas.Option.{slice_get_past}
 use Rattle.critical_table.specs.declared.case.Case.{Case}
-use Rattle.critical_table.specs.declared.case.Case.TheVariants.{L9, L11}
+use Rattle.critical_table.specs.declared.case.Case.TheVariants.{L6, L9, L11}
 use Rattle.object_store.specs.declared.pointer.Pointer.{Pointer}
 use Rattle.object_store.specs.Object.{Object, place_of, object_of}
 use Rattle.object_store.specs.Storage.{Storage}
@@ -29,7 +29,7 @@ use Rattle.lib_defs.specs.RowTable.{rule_of, violation_at}
 use Rattle.lib_defs.specs.Shown.{argument_shown, line_rule, failure_at}
 use Rattle.lib_defs.specs.Allocation.{is_dead, release_case}
 use Rattle.run_defs.specs.Functions.{Function, Environment, function_number, function_at, pointer_shown, value_shown}
-use Rattle.run_defs.specs.Fits.{same_shown, is_failure, is_case, is_function, is_null as shows_null, release_trap}
+use Rattle.run_defs.specs.Fits.{same_shown, is_failure, is_case, is_call_trap, is_function, is_null as shows_null, release_trap}
 use Rattle.run_defs.proofs.Outlines.{outlined_store, test-outlines, is_live-outlines}
 use Rattle.run_defs.proofs.Following.{most_objects, same_case_itself}
 
@@ -144,7 +144,15 @@ module _ (e : Environment) (s : Storage) (p : Pointer) (case : Case) (few : leng
   pub release_shown : IsTold (value_shown e (Ptr p))
   release_shown = by_function (nat_lt p.object first_function) refl (function_at e p) refl
 
--- The handler that is set: neither null nor a function's number.
-pub handler_shown : (e : Environment) (p : Pointer) → is_null p ≡ false → nat_lt p.object first_function ≡ true
+-- A pointer to no function, null or not.
+pub no_function : (e : Environment) (p : Pointer) → function_at e p ≡ None
+    → is_call_trap L6 (value_shown e (Ptr p)) ≡ true
+no_function e p at = rw at (by_null (is_null p))
+  where
+    by_null : (is_it_null : Bool) → is_call_trap L6 (cond is_it_null (Place 0 0) (Place p.object p.offset)) ≡ true
+    by_null true = refl
+    by_null false = refl
+
+pub no_handler : (e : Environment) (p : Pointer) → is_null p ≡ false → function_at e p ≡ None
     → (not (shows_null (value_shown e (Ptr p))) && not (is_function (value_shown e (Ptr p)))) ≡ true
-handler_shown e p null near = rw (near, null) (rw null refl)
+no_handler e p null at = rw (at, null) (rw null refl)
