@@ -1,13 +1,13 @@
 -- Journals with a line that does not fit, and the number of that line, from 0.
 use Rattle.std.proofs.Common.{◌≡◌, ℕ, List, [], ◌∷◌, ◌++◌, refl}
 use Rattle.std.specs.Prelude.{codes, pos}
-use Rattle.critical_table.specs.declared.case.Case.TheVariants.{L1, L3, L5, L6, L7, L9, L11}
+use Rattle.critical_table.specs.declared.case.Case.TheVariants.{L1, L3, L6, L7, L9, L11}
 use Rattle.critical_table.specs.declared.code.Code.TheVariants.{U01, U05}
-use Rattle.object_store.specs.declared.by.By.TheVariants.{Star, Store as StoreBy}
+use Rattle.object_store.specs.declared.by.By.TheVariants.{Star}
 use Rattle.object_store.specs.declared.class.Class.TheVariants.{Static, Automatic, Allocated}
 use Rattle.object_store.specs.declared.mark.Mark.TheVariants.{Literal, Const}
 use Rattle.object_store.specs.Reach.{reach_table}
-use Rattle.lib_defs.specs.declared.shown.Shown.TheVariants.{Number, Function, Place, NoValue}
+use Rattle.lib_defs.specs.declared.shown.Shown.TheVariants.{Number, Function, Place}
 use Rattle.run_defs.specs.declared.attempt.Attempt.{Attempt}
 use Rattle.run_defs.specs.declared.event.Event.{Event}
 use Rattle.run_defs.specs.declared.event.Event.TheVariants as event
@@ -133,7 +133,8 @@ unfolding reach_table
 to_none = refl
 
 -- A mark covers its bytes alone.
-to_const : verdict (begins ++ event.Sealed 6 (record { at = 1; len = 1; mark = Const }) ∷ stores 6 0 1 ∷ stores 6 2 2 ∷ stores 6 0 2 ∷ [])
+to_const : verdict (begins ++ event.Sealed 6 (record { at = 1; len = 1; mark = Const }) ∷ stores 6 0 1
+    ∷ stores 6 2 2 ∷ stores 6 0 2 ∷ [])
     ≡ Unlawful 7
 unfolding reach_table
 to_const = refl
@@ -147,7 +148,8 @@ seal_past_end = refl
 -- Library calls.
 
 -- A violation with all that belongs to it.
-violated : verdict (begins ++ begins_copy 2 ∷ violates 5 ∷ stores 2 0 1 ∷ aborts ∷ event.HandlerReturned ∷ gives 34 ∷ exits ∷ [])
+violated : verdict (begins ++ begins_copy 2 ∷ violates 5 ∷ stores 2 0 1 ∷ aborts ∷ event.HandlerReturned ∷ gives 34
+    ∷ exits ∷ [])
     ≡ Lawful
 unfolding reach_table
 violated = refl
@@ -171,13 +173,16 @@ unfolding reach_table
 late_action = refl
 
 -- The handler is not the one that was set last.
-wrong_handler : verdict (begins ++ begins_copy 2 ∷ violates 5 ∷ stores 2 0 1 ∷ event.HandlerCalled (codes "ignore_handler_s") ∷ [])
+wrong_handler : verdict (begins ++ begins_copy 2 ∷ violates 5 ∷ stores 2 0 1
+    ∷ event.HandlerCalled (codes "ignore_handler_s") ∷ [])
     ≡ Unlawful 7
 unfolding reach_table
 wrong_handler = refl
 
 -- The one set last is called.
-last_handler : verdict (begins ++ event.Called (row 20) [] ∷ event.HandlerSet (codes "h") ∷ event.Returned (row 20) (Function (codes "abort_handler_s")) ∷ begins_copy 0 ∷ violates 1 ∷ event.HandlerCalled (codes "h") ∷ exits ∷ [])
+last_handler : verdict (begins ++ event.Called (row 20) [] ∷ event.HandlerSet (codes "h")
+    ∷ event.Returned (row 20) (Function (codes "abort_handler_s")) ∷ begins_copy 0 ∷ violates 1
+    ∷ event.HandlerCalled (codes "h") ∷ exits ∷ [])
     ≡ Lawful
 unfolding reach_table
 last_handler = refl
@@ -243,13 +248,15 @@ unfolding reach_table
 other_row = refl
 
 -- A call is closed before the one around it.
-inner_first : verdict (begins ++ event.Called (row 49) [] ∷ begins_copy 2 ∷ event.Returned (row 49) (Number (pos 0)) ∷ [])
+inner_first : verdict (begins ++ event.Called (row 49) [] ∷ begins_copy 2 ∷ event.Returned (row 49) (Number (pos 0))
+    ∷ [])
     ≡ Unlawful 6
 unfolding reach_table
 inner_first = refl
 
 -- A handler runs in which a call is open: that call returns first.
-guest_handler : verdict (begins ++ begins_copy 0 ∷ violates 1 ∷ aborts ∷ event.Called (row 49) [] ∷ event.HandlerReturned ∷ [])
+guest_handler : verdict (begins ++ begins_copy 0 ∷ violates 1 ∷ aborts ∷ event.Called (row 49) []
+    ∷ event.HandlerReturned ∷ [])
     ≡ Unlawful 8
 unfolding reach_table
 guest_handler = refl
@@ -301,7 +308,8 @@ unfolding reach_table
 untold = refl
 
 -- A reach of a dead object.
-dead_reach : verdict (begins ++ event.Died 6 ∷ event.ReachFailed L1 at_two (attempt 6 4) ∷ event.Ended (end.Trapped L1) ∷ [])
+dead_reach : verdict (begins ++ event.Died 6 ∷ event.ReachFailed L1 at_two (attempt 6 4)
+    ∷ event.Ended (end.Trapped L1) ∷ [])
     ≡ Lawful
 unfolding reach_table
 dead_reach = refl
@@ -334,7 +342,8 @@ unfolding reach_table
 called_function = refl
 
 -- A handler of another type, behind a violation.
-handler_type : verdict (begins ++ begins_copy 0 ∷ violates 1 ∷ event.ValueFailed L3 at_two (Function (codes "g")) ∷ event.Ended (end.Trapped L3) ∷ [])
+handler_type : verdict (begins ++ begins_copy 0 ∷ violates 1 ∷ event.ValueFailed L3 at_two (Function (codes "g"))
+    ∷ event.Ended (end.Trapped L3) ∷ [])
     ≡ Lawful
 unfolding reach_table
 handler_type = refl
@@ -345,7 +354,8 @@ unfolding reach_table
 handler_null = refl
 
 -- free of an automatic object, outside of free, and of null.
-released : verdict (begins ++ event.Called (row 46) [] ∷ event.ValueFailed L9 at_two (Place 6 0) ∷ event.Ended (end.Trapped L9) ∷ [])
+released : verdict (begins ++ event.Called (row 46) [] ∷ event.ValueFailed L9 at_two (Place 6 0)
+    ∷ event.Ended (end.Trapped L9) ∷ [])
     ≡ Lawful
 unfolding reach_table
 released = refl
@@ -361,18 +371,21 @@ unfolding reach_table
 released_null = refl
 
 -- free of an allocated object that is dead, or that lives.
-released_twice : verdict (begins ++ event.Made 9 1 Allocated ∷ event.Died 9 ∷ event.Called (row 46) [] ∷ event.ValueFailed L11 at_two (Place 9 0) ∷ event.Ended (end.Trapped L11) ∷ [])
+released_twice : verdict (begins ++ event.Made 9 1 Allocated ∷ event.Died 9 ∷ event.Called (row 46) []
+    ∷ event.ValueFailed L11 at_two (Place 9 0) ∷ event.Ended (end.Trapped L11) ∷ [])
     ≡ Lawful
 unfolding reach_table
 released_twice = refl
 
-released_once : verdict (begins ++ event.Made 9 1 Allocated ∷ event.Called (row 46) [] ∷ event.ValueFailed L11 at_two (Place 9 0) ∷ [])
+released_once : verdict (begins ++ event.Made 9 1 Allocated ∷ event.Called (row 46) []
+    ∷ event.ValueFailed L11 at_two (Place 9 0) ∷ [])
     ≡ Unlawful 6
 unfolding reach_table
 released_once = refl
 
 -- set_constraint_handler_s with an object, with a function.
-set_place : verdict (begins ++ event.Called (row 20) [] ∷ event.ValueFailed L9 at_two (Place 6 0) ∷ event.Ended (end.Trapped L9) ∷ [])
+set_place : verdict (begins ++ event.Called (row 20) [] ∷ event.ValueFailed L9 at_two (Place 6 0)
+    ∷ event.Ended (end.Trapped L9) ∷ [])
     ≡ Lawful
 unfolding reach_table
 set_place = refl
@@ -383,7 +396,8 @@ unfolding reach_table
 set_function = refl
 
 -- printf's second argument, its format, and another row's argument.
-argument : verdict (begins ++ event.Called (row 52) [] ∷ event.ArgumentFailed at_two 2 ∷ event.Ended (end.Trapped L9) ∷ [])
+argument : verdict (begins ++ event.Called (row 52) [] ∷ event.ArgumentFailed at_two 2
+    ∷ event.Ended (end.Trapped L9) ∷ [])
     ≡ Lawful
 unfolding reach_table
 argument = refl

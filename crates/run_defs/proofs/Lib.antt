@@ -9,4 +9,6 @@ pub mod Worlds
 pub mod Following
 pub mod Starting
 pub mod RowFacts
+pub mod RowLines
 pub mod Serving
+pub mod Completing

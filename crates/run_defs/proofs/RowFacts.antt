@@ -1,11 +1,11 @@
 -- What the laws of rows say of a line: failure values, releases, and the handler that is set.
-use Rattle.std.proofs.Common.{◌≡◌, ℕ, ◌≤◌, ◌<◌, ◌==◌, ◌%◌, ◌&&◌, Bool, true, false, not, List, [], Option, Some, None, refl, arith}
+use Rattle.std.proofs.Common.{◌≡◌, ℕ, ◌≤◌, ◌==◌, ◌%◌, ◌&&◌, Bool, true, false, not, List, [], Option, Some, None, refl}
+use Rattle.std.proofs.Common.{arith}
 use Rattle.std.proofs.Common.{subst, sym, ◌∙◌, length, cond}
 use Rattle.std.specs.Prelude.{nat_lt, IfSome}
 use Rattle.std.specs.Option.{option_and_then}
-use Rattle.std.proofs.lemmas.Bool.{eq-eqb, and_from, or_left, or_right, ne_eqb, ltb-false}
+use Rattle.std.proofs.lemmas.Bool.{ne_eqb, ltb-false}
 use Rattle.std.proofs.lemmas.Bool.Decides.{Decides-int_eq}
-use Rattle.std.proofs.lemmas.Slice.Eq.{bytes_eq-Decides}
 use Rattle.std.proofs.lemmas.Option.{slice_get_past}
 use Rattle.critical_table.specs.declared.case.Case.{Case}
 use Rattle.critical_table.specs.declared.case.Case.TheVariants.{L6, L9, L11}
@@ -16,7 +16,7 @@ use Rattle.lib_defs.specs.declared.row.Row.{Row}
 use Rattle.lib_defs.specs.declared.row_name.RowName.{RowName}
 use Rattle.lib_defs.specs.declared.row_name.RowName.TheVariants as n
 use Rattle.lib_defs.specs.declared.shown.Shown.{Shown}
-use Rattle.lib_defs.specs.declared.shown.Shown.TheVariants.{Number, Function as FunctionShown, Place, NoValue}
+use Rattle.lib_defs.specs.declared.shown.Shown.TheVariants.{Place}
 use Rattle.lib_defs.specs.declared.value.Value.{Value}
 use Rattle.lib_defs.specs.declared.value.Value.TheVariants.{Num, Ptr, Nothing}
 use Rattle.lib_defs.specs.declared.violation.Violation.{Violation}
@@ -29,9 +29,11 @@ use Rattle.lib_defs.specs.RowTable.{rule_of, violation_at}
 use Rattle.lib_defs.specs.Shown.{argument_shown, line_rule, failure_at}
 use Rattle.lib_defs.specs.Allocation.{is_dead, release_case}
 use Rattle.run_defs.specs.Functions.{Function, Environment, function_number, function_at, pointer_shown, value_shown}
-use Rattle.run_defs.specs.Fits.{same_shown, is_failure, is_case, is_call_trap, is_function, is_null as shows_null, release_trap}
-use Rattle.run_defs.proofs.Outlines.{outlined_store, test-outlines, is_live-outlines}
-use Rattle.run_defs.proofs.Following.{most_objects, same_case_itself}
+use Rattle.run_defs.specs.Fits.{same_shown, is_failure, is_case, is_call_trap, is_function, is_null as shows_null}
+use Rattle.run_defs.specs.Fits.{release_trap}
+use Rattle.run_defs.specs.Kept.{outlined_store, most_objects}
+use Rattle.run_defs.proofs.Outlines.{test-outlines, is_live-outlines}
+use Rattle.run_defs.proofs.Following.{same_case_itself}
 
 -- Failure values are numbers, or null.
 
@@ -76,7 +78,8 @@ by_rule None plain class value is = cc
 by_rule (Some r) plain class value is = let same : r.failure class ≡ value = cc in subst IsPlain same (plain class)
 
 by_class : (found : Option Violation) (rule : Option Rule) → FailsPlainly rule → (value : Value)
-    → option_and_then (λ (class : Violation). option_and_then (λ (r : Rule). Some (r.failure class)) rule) found ≡ Some value
+    → option_and_then (λ (class : Violation). option_and_then (λ (r : Rule). Some (r.failure class)) rule) found
+    ≡ Some value
     → IsPlain value
 by_class None rule plain value is = cc
 by_class (Some class) rule plain value is = by_rule rule plain class value is
@@ -116,9 +119,9 @@ no_release false = refl
 release_function : (s : Storage) (p : Pointer) → length s.objects ≤ most_objects → first_function ≤ p.object
     → release_case s p ≡ Some L9
 release_function s p few far = rw (
-      ne_eqb p.object 0 (λ is. omega (arith, is, far)),
-      no_object s.objects p.object few far,
-    ) (no_release (p.object % 2 == 1))
+  ne_eqb p.object 0 (λ is. omega (arith, is, far)),
+  no_object s.objects p.object few far,
+) (no_release (p.object % 2 == 1))
 
 -- the trap of a release is told by the value that its line shows
 module _ (e : Environment) (s : Storage) (p : Pointer) (case : Case) (few : length s.objects ≤ most_objects)
@@ -126,7 +129,8 @@ module _ (e : Environment) (s : Storage) (p : Pointer) (case : Case) (few : leng
   abbrev IsTold : Shown → Type 0
   IsTold value = is_case case (release_trap (outlined_store s.objects) value) ≡ true
 
-  of_place : (is_it_null : Bool) → is_null p ≡ is_it_null → IsTold (cond is_it_null (Place 0 0) (Place p.object p.offset))
+  of_place : (is_it_null : Bool) → is_null p ≡ is_it_null
+      → IsTold (cond is_it_null (Place 0 0) (Place p.object p.offset))
   of_place true null = let no : None ≡ Some case = sym (rw null refl) ∙ is in cc
   of_place false null = rw (release-outlines s p ∙ is) (same_case_itself case)
 

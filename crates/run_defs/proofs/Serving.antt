@@ -1,21 +1,16 @@
 -- A library call opens a call and closes it, whatever its row, the handler and functions of the unit do in between.
-use Rattle.std.proofs.Common.{◌≡◌, ℕ, zero, suc, ◌+◌, ◌≤◌, Bool, true, false, not, ◌&&◌, List, [], ◌∷◌, length, replicate, Option}
-use Rattle.std.proofs.Common.{Some, None, cond, refl, arith, ap, subst, sym, ◌∙◌}
-use Rattle.std.specs.Prelude.{is_none}
+use Rattle.std.proofs.Common.{◌≡◌, ℕ, zero, suc, ◌+◌, ◌≤◌, Bool, true, false, List, [], ◌∷◌, length, replicate, Option}
+use Rattle.std.proofs.Common.{Some, None, refl, arith, subst, sym, ◌∙◌}
 use Rattle.std.proofs.lemmas.List.{length-replicate}
 use Rattle.std.proofs.lemmas.Bool.{le-leb, eq-eqb, and_from, or_left, or_right, cond-true, and_parts}
 use Rattle.std.proofs.lemmas.Slice.Eq.{bytes_eq-Decides}
 use Rattle.critical_table.specs.declared.case.Case.{Case}
 use Rattle.critical_table.specs.declared.case.Case.TheVariants.{L3, L6, L9}
 use Rattle.critical_table.specs.declared.pos.Pos.{Pos}
-use Rattle.critical_table.specs.declared.ended.Ended.{Ended}
-use Rattle.critical_table.specs.declared.ended.Ended.TheVariants as ended
-use Rattle.object_store.specs.declared.by.By.{By}
 use Rattle.object_store.specs.declared.class.Class.TheVariants.{Allocated}
 use Rattle.object_store.specs.declared.pointer.Pointer.{Pointer}
-use Rattle.object_store.specs.Object.{Object}
 use Rattle.object_store.specs.Storage.{Storage}
-use Rattle.object_store.specs.Reach.{reach, IsReachedToStore}
+use Rattle.object_store.specs.Reach.{IsReachedToStore}
 use Rattle.lib_defs.specs.declared.handler.Handler.{Handler}
 use Rattle.lib_defs.specs.declared.row.Row.{Row}
 use Rattle.lib_defs.specs.declared.row_name.RowName.{RowName}
@@ -28,43 +23,42 @@ use Rattle.lib_defs.specs.declared.value.Value.{Value}
 use Rattle.lib_defs.specs.declared.value.Value.TheVariants.{Ptr}
 use Rattle.lib_defs.specs.Units.{rsize_max}
 use Rattle.lib_defs.specs.RowNumbers.{name_at}
-use Rattle.lib_defs.specs.Reply.{Patch, Fill, Change, Stop, FailsReach, FailsValue, FailsArgument, IsUndefined, Ends, Did}
-use Rattle.lib_defs.specs.Reply.{Done, Broken, Asks, Fails, patch_of, with_made}
+use Rattle.lib_defs.specs.Reply.{Patch, Fill, Change, Stop, FailsReach, FailsValue, FailsArgument, IsUndefined, Ends}
+use Rattle.lib_defs.specs.Reply.{Did}
+use Rattle.lib_defs.specs.Reply.{Done, Broken, Asks, Fails, with_made}
 use Rattle.lib_defs.specs.Columns.{is_null}
 use Rattle.lib_defs.specs.Shown.{line_values, line_decisions, line_action, failure_at, none_fails, is_first_failing}
 use Rattle.lib_defs.specs.Shown.{write_of_len, write_of}
 use Rattle.lib_defs.specs.World.{Streams, World, Reply, Flows, world}
 use Rattle.lib_defs.specs.Library.{values_of}
-use Rattle.lib_defs.specs.Laws.{IfMade, IfSet, AreReached, IfReached, DoneFits, BrokenFits, EndFits, StopFits, ValueFits}
-use Rattle.lib_defs.specs.Laws.{RowStopFits, CallFits, ResumeFits, HandlerFits, is_handler, KeepsLaws, IsWorld, first_pointer}
-use Rattle.run_defs.specs.declared.attempt.Attempt.{Attempt}
+use Rattle.lib_defs.specs.Laws.{IfMade, IfSet, AreReached, IfReached, StopFits, ValueFits}
+use Rattle.lib_defs.specs.Laws.{RowStopFits, CallFits, ResumeFits, HandlerFits, KeepsLaws, IsWorld}
 use Rattle.run_defs.specs.declared.event.Event.TheVariants as event
 use Rattle.run_defs.specs.declared.library_call.LibraryCall.{LibraryCall}
-use Rattle.run_defs.specs.declared.library_call.Suspended.{Suspended}
 use Rattle.run_defs.specs.declared.library_call.Waits.{Waits}
 use Rattle.run_defs.specs.declared.library_call.Waits.TheVariants.{ForHandler, ForFunction}
 use Rattle.run_defs.specs.declared.outcome.End.TheVariants as end
-use Rattle.run_defs.specs.declared.outcome.Outcome.{Outcome}
 use Rattle.run_defs.specs.declared.outcome.Outcome.TheVariants.{Trapped, OutOfTicks}
-use Rattle.run_defs.specs.Outcomes.{row_outcome, end_of}
+use Rattle.run_defs.specs.Outcomes.{row_outcome}
 use Rattle.run_defs.specs.State.{State, logged, with_streams, made, bytes_patched, patched, all_patched}
-use Rattle.run_defs.specs.Evaluation.{Evaluation, Gives, Stops, bind, ticked_at, ticked}
-use Rattle.run_defs.specs.RowKinds.{is_setter, is_printer, is_release_name, is_release}
+use Rattle.run_defs.specs.Evaluation.{Evaluation, Gives, Stops, bind, ticked_at}
 use Rattle.run_defs.specs.Functions.{Function, OfLibrary, OfUnit, Environment, function_at, function_name, handler_name}
 use Rattle.run_defs.specs.Functions.{value_shown, function_number, Handles, ByUnit, ByLibrary, OfOtherType, handles}
-use Rattle.run_defs.specs.Served.{Served, Answers, Wants, stopped, row_made, row_released, row_set, changed, returned}
-use Rattle.run_defs.specs.Served.{acted, told, handler_returned, row_handled, Failure, handled, violated, Wish, asked, served}
-use Rattle.run_defs.specs.Served.{replied, sets_no_function, begun_if, begun, gone_on, continued}
-use Rattle.run_defs.specs.Calls.{Enter, completed, library_call}
-use Rattle.run_defs.specs.Fits.{same_case, same_row, is_quiet, is_case, is_call_trap, release_trap, is_row_trap}
-use Rattle.run_defs.specs.Replay.{Running, Handling, OpenCall, open_call, Due, AnyLine, TheHandler, TheReturn, NoLine}
-use Rattle.run_defs.specs.Replay.{Replay, due_action, is_value_trap}
-use Rattle.run_defs.proofs.Outlines.{outlines, outlined_store, reach-outlines, outlines-stored, is_store-outlines}
+use Rattle.run_defs.specs.Served.{Served, Answers, Wants, stopped, row_made, row_released, row_set, returned}
+use Rattle.run_defs.specs.Served.{acted, told, handler_returned, row_handled, Failure, handled, Wish, asked, served}
+use Rattle.run_defs.specs.Fits.{same_case, is_row_trap}
+use Rattle.run_defs.specs.Replay.{Handling, OpenCall, open_call, AnyLine, TheHandler, TheReturn, NoLine}
+use Rattle.run_defs.specs.Replay.{due_action}
+use Rattle.run_defs.specs.Kept.{outlined_store, Reads, with_flag, seen, most_objects, At, Closes}
+use Rattle.run_defs.proofs.Outlines.{outlines-stored, is_store-outlines}
 use Rattle.run_defs.proofs.Worlds.{sized_stored, length-stored, bytes_left}
-use Rattle.run_defs.proofs.Following.{most_objects, Reads, reads_on, with_flag, seen, At, Closes, Keeps, same_case_itself}
-use Rattle.run_defs.proofs.Following.{at_made, at_died, at_patched, quiet_closes, told_closes, reach_closes, value_closes}
-use Rattle.run_defs.proofs.Following.{undefined_closes, keeps_bind, keeps_tick, at_tick}
+use Rattle.run_defs.proofs.Following.{reads_on, same_case_itself}
+use Rattle.run_defs.proofs.Following.{at_made, at_died, at_patched, quiet_closes, told_closes, reach_closes}
+use Rattle.run_defs.proofs.Following.{value_closes}
+use Rattle.run_defs.proofs.Following.{undefined_closes, at_tick}
 use Rattle.run_defs.proofs.RowFacts.{failure_shown, release_shown, no_function, no_handler}
+use Rattle.run_defs.proofs.RowLines.{same_row_itself, setter_row, printer_row, release_row, library_handler, from_not}
+use Rattle.run_defs.proofs.RowLines.{row_quiet, all_reached, outlines-patched}
 
 -- a call that has begun
 abbrev pub opened : Row → List Arg → OpenCall
@@ -73,11 +67,6 @@ opened row args = open_call row (line_values row (values_of args))
 -- and one whose handler runs
 abbrev pub violating : Row → List Arg → ℕ → OpenCall
 violating row args k = record { row = row; values = line_values row (values_of args); phase = Handling k }
-
--- What is asked of the functions of a unit.
-abbrev pub EnterKeeps : Environment → Enter → Type 0
-EnterKeeps e enter = (f : ℕ) (args : List Value) (pos : Pos) (s : State) (calls : List OpenCall) → At e s calls
-    → Keeps e calls (enter f args pos s)
 
 -- The open calls while a function of the unit is wanted: the call is on top of those behind it.
 abbrev pub WaitingFor : (Row → List Arg → Rest → Bool) → Row → Waits → (inner calls : List OpenCall) → Type 0
@@ -92,78 +81,6 @@ Serves e waits calls (Gives (Answers value) s) = At e s calls
 Serves e waits calls (Gives (Wants f args suspended) s) = (inner : List OpenCall) × At e s inner
     × WaitingFor waits suspended.call.row suspended.waits inner calls
 Serves e waits calls (Stops outcome s) = Closes outcome s
-
-same_row_itself : (row : Row) → same_row row row ≡ true
-same_row_itself row = eq-eqb row.0 row.0 refl
-
-setter_row : (row : Row) → name_at row ≡ Some n.SetConstraintHandlerS → is_setter row ≡ true
-setter_row row is = rw is refl
-
-printer_row : (row : Row) → name_at row ≡ Some n.Printf → is_printer row ≡ true
-printer_row row is = rw is refl
-
-release_row : (row : Row) (name : RowName) → is_release_name name ≡ true → name_at row ≡ Some name → is_release row ≡ true
-release_row row name releases is = rw is releases
-
--- a library function that is called as the handler is one
-library_handler : (found : Option Function) (row : Row) → handles found ≡ ByLibrary row → is_handler row ≡ true
-library_handler None row is = cc
-library_handler (Some (OfUnit name true compares)) row is = cc
-library_handler (Some (OfUnit name false compares)) row is = cc
-library_handler (Some (OfLibrary r)) row is = by_test (is_handler r) refl is
-  where
-    by_test : (test : Bool) → is_handler r ≡ test → cond test (ByLibrary r) OfOtherType ≡ ByLibrary row
-        → is_handler row ≡ true
-    by_test true handler is = let same : r ≡ row = cc in subst (λ x. is_handler x ≡ true) same handler
-    by_test false handler is = cc
-
-none_at : (found : Option Function) → is_none found ≡ true → found ≡ None
-none_at None is = refl
-none_at (Some f) is = cc
-
--- set_constraint_handler_s with what is neither null nor a function's number
-setter_trap : (e : Environment) (row : Row) (store : Storage) (p : Pointer) → is_setter row ≡ true → is_null p ≡ false
-    → function_at e p ≡ None → is_row_trap store L9 (value_shown e (Ptr p)) row ≡ true
-setter_trap e row store p setter null at =
-    or_right (is_release row && is_case L9 (release_trap store (value_shown e (Ptr p)))) _
-    (and_from (is_setter row) _ setter (no_handler e p null at))
-
-from_not : (b : Bool) → not b ≡ true → b ≡ false
-from_not true is = cc
-from_not false is = refl
-
--- a row ends a run neither by a trap nor by an undefined operation
-row_quiet : (end : Ended) → is_quiet (end_of (row_outcome end)) ≡ true
-row_quiet (ended.Exited status) = refl
-row_quiet ended.ReadFault = refl
-row_quiet _ = refl
-
--- A range stays reached where the objects stay as they are but for bytes.
-abbrev reach_of : Pointer → ℕ → ℕ → By → List Object → Option Case
-reach_of place len align by objects =
-    reach (record { objects = objects; budget = 0; open_calls = 0; writes = [] }) place len align by
-
-still_reached : (old new : Storage) → outlines new.objects ≡ outlines old.objects → (place : Pointer) (len : ℕ)
-    → IsReachedToStore old place len → IsReachedToStore new place len
-still_reached old new same place len r = record {
-  align = r.align;
-  by = r.by;
-  storing = r.storing;
-  reached = sym (reach-outlines new place len r.align r.by) ∙ ap (reach_of place len r.align r.by) same
-      ∙ reach-outlines old place len r.align r.by ∙ r.reached;
-}
-
-all_reached : (old new : Storage) → outlines new.objects ≡ outlines old.objects → (ps : List Patch) → AreReached old ps
-    → AreReached new ps
-all_reached old new same [] each = tt
-all_reached old new same (p ∷ ps) each =
-    (still_reached old new same p.place (length p.bytes) each.0, all_reached old new same ps each.1)
-
-outlines-patched : (s : State) (place : Pointer) (bytes : List (Option ℕ))
-    → IsReachedToStore s.world.store place (length bytes)
-    → outlines (bytes_patched bytes place s).world.store.objects ≡ outlines s.world.store.objects
-outlines-patched s place [] reached = refl
-outlines-patched s place (b ∷ bytes) reached = outlines-stored s.world.store place (b ∷ bytes) reached
 
 -- the replay's call on top has its handler due
 record HandlerDue (e : Environment) (s : State) (calls : List OpenCall) (k : ℕ) : Type 0 where
@@ -180,12 +97,14 @@ module _ (e : Environment) where
       (all_reached s.world.store (patched p s).world.store (outlines-patched s p.place p.bytes each.0) ps each.1)
       (at_patched e s calls p each.0 a)
 
-  at_released : (calls : List OpenCall) (number : Option ℕ) (s : State) → At e s calls → At e (row_released number s) calls
+  at_released : (calls : List OpenCall) (number : Option ℕ) (s : State) → At e s calls
+      → At e (row_released number s) calls
   at_released calls None s a = a
   at_released calls (Some number) s a = at_died e s calls number a
 
   -- a row leaves bytes of the input
-  at_streams : (calls : List OpenCall) (streams : Streams) (s : State) → Flows s.world.streams streams → At e s calls
+  pub at_streams : (calls : List OpenCall) (streams : Streams) (s : State) → Flows s.world.streams streams
+      → At e s calls
       → At e (with_streams streams s) calls
   at_streams calls streams s flows a = record {
     flag = a.flag;
@@ -206,7 +125,8 @@ module _ (e : Environment) where
   stop_closes (Ends end) streams pos s waits inner calls fits a =
       quiet_closes e s inner (row_outcome end) (row_quiet end) a
 
-  module _ (laws : KeepsLaws e.library) (call : LibraryCall) (args : List Arg) (flag : Bool) (calls : List OpenCall) where
+  module _ (laws : KeepsLaws e.library) (call : LibraryCall) (args : List Arg) (flag : Bool)
+      (calls : List OpenCall) where
     abbrev values : List Shown
     values = line_values call.row (values_of args)
 
@@ -221,7 +141,8 @@ module _ (e : Environment) where
 
     -- A row that is done.
 
-    at_set : (set : Option Pointer) (value : Value) (handler : Handler) (s : State) → IfSet call.row args handler set value
+    at_set : (set : Option Pointer) (value : Value) (handler : Handler) (s : State)
+        → IfSet call.row args handler set value
         → At e s now → At e (row_set e set s) now
     at_set None value handler s fits a = a
     at_set (Some p) value handler s fits a = record {
@@ -250,14 +171,16 @@ module _ (e : Environment) where
         let s1 : State = all_patched change.stores s in
         let s2 : State = row_released change.released s1 in
         at_returned (value_shown e value) (row_set e set s2) passes
-        (at_set set value handler s2 fits (at_released now change.released s1 (at_all_patched now change.stores s reached a)))
+        (at_set set value handler s2 fits (at_released now change.released s1 (at_all_patched now change.stores s
+        reached a)))
 
-    done_by : (size : ℕ) (change : Change) (set : Option Pointer) (value : Value) (handler : Handler) (s : State) (ticks : ℕ)
+    done_by : (size : ℕ) (change : Change) (set : Option Pointer) (value : Value) (handler : Handler) (s : State)
+        (ticks : ℕ)
         → ticks ≡ s.ticks → none_fails (line_decisions call.row values) ≡ true → IfSet call.row args handler set value
         → 1 ≤ size → size ≤ rsize_max → AreReached (with_made (Some size) s.world.store) change.stores → At e s now
         → Fine (bind (bind (bind (ticked_at ticks s) (λ u s1. Gives (tt {0}) (made size Allocated s1))) (λ u s1.
-            Gives (tt {0}) (row_set e set (row_released change.released (all_patched change.stores s1)))))
-            (λ u s1. returned e call value s1))
+        Gives (tt {0}) (row_set e set (row_released change.released (all_patched change.stores s1)))))
+        (λ u s1. returned e call value s1))
     done_by size change set value handler s zero is passes fits some within reached a =
         quiet_closes e s now OutOfTicks refl a
     done_by size change set value handler s (suc left) is passes fits some within reached a =
@@ -270,8 +193,8 @@ module _ (e : Environment) where
         → IfSet call.row args handler set value → IfMade s.world.store size value
         → AreReached (with_made size s.world.store) change.stores → At e s now
         → Fine (bind (bind (row_made size s) (λ u s1.
-            Gives (tt {0}) (row_set e set (row_released change.released (all_patched change.stores s1)))))
-            (λ u s1. returned e call value s1))
+        Gives (tt {0}) (row_set e set (row_released change.released (all_patched change.stores s1)))))
+        (λ u s1. returned e call value s1))
     done_serves None change is set value handler s passes fits sized reached a =
         finish change set value handler s passes fits reached a
     done_serves (Some size) change is set value handler s passes fits sized reached a =
@@ -306,7 +229,8 @@ module _ (e : Environment) where
         (same_case_itself case)
     row_stop_closes (FailsArgument k) streams before handler s fits a = told_closes e s
         (event.ArgumentFailed call.pos k) (seen e a.flag s now AnyLine) (Trapped L9 call.pos) a.reads
-        (cond-true _ _ _ (and_from _ _ (and_from _ _ refl (printer_row call.row fits.printer)) (le-leb 2 k fits.behind)))
+        (cond-true _ _ _ (and_from _ _ (and_from _ _ refl (printer_row call.row fits.printer)) (le-leb 2 k
+        fits.behind)))
         (same_case_itself L9)
     row_stop_closes (IsUndefined code) streams before handler s fits a =
         stop_closes (IsUndefined code) streams call.pos s laws.waits now calls fits a
@@ -326,7 +250,8 @@ module _ (e : Environment) where
         let reaches : IsReachedToStore s.world.store f.place (length bytes) =
         subst (IsReachedToStore s.world.store f.place) (sym long) reached in record {
           flag = true;
-          reads = reads_on s (event.Stored (record { object = f.place.object; at = f.place.offset; len = length bytes }))
+          reads = reads_on s
+              (event.Stored (record { object = f.place.object; at = f.place.offset; len = length bytes }))
               (seen e false s now (due_action k (write_of_len (suc n) f))) _ r
               (cond-true _ _ _ (and_from _ _
               (and_from _ _ (eq-eqb f.place.object f.place.object refl)
@@ -343,7 +268,8 @@ module _ (e : Environment) where
     at_acted k None s reached w few r = record { flag = false; reads = r; world = w; few = few }
     at_acted k (Some f) s reached w few r = acted_by k f f.len s reached w few r
 
-    at_violated : (k : ℕ) (action : Option Fill) (s : State) → is_first_failing (line_decisions call.row values) k ≡ true
+    at_violated : (k : ℕ) (action : Option Fill) (s : State)
+        → is_first_failing (line_decisions call.row values) k ≡ true
         → write_of action ≡ line_action call.row values → IfReached s.world.store action → IsWorld s.world
         → length s.world.store.objects + s.ticks ≤ most_objects → Reads s (seen e false s now AnyLine)
         → HandlerDue e (acted action (logged (event.Violated call.row k) s)) now k
@@ -368,7 +294,7 @@ module _ (e : Environment) where
       few = due.few;
     }
 
-    at_failed : (k : ℕ) (value : Value) (s : State) → failure_at call.row k ≡ Some value → At e s (its_handler k)
+    pub at_failed : (k : ℕ) (value : Value) (s : State) → failure_at call.row k ≡ Some value → At e s (its_handler k)
         → Fine (handler_returned e call value s)
     at_failed k value s failure a =
         let back : Reads (logged event.HandlerReturned s) (seen e a.flag s (its_handler k) (TheReturn k)) =
@@ -381,7 +307,8 @@ module _ (e : Environment) where
           few = a.few;
         }
 
-    row_serves : (did : Did) (streams : Streams) (w : World) (k : ℕ) (value : Value) (s : State) → w.store ≡ s.world.store
+    row_serves : (did : Did) (streams : Streams) (w : World) (k : ℕ) (value : Value) (s : State)
+        → w.store ≡ s.world.store
         → failure_at call.row k ≡ Some value → HandlerFits w streams did → At e s (its_handler k)
         → Fine (row_handled e call value did s)
     row_serves (Done change set v) streams w k value s is failure fits a = at_failed k value s failure a
@@ -400,8 +327,10 @@ module _ (e : Environment) where
     handles_serves (ByLibrary row) failure s kind value due =
         let reply : Reply = e.library.call row (told failure.class) s.world in
         row_serves reply.did reply.streams s.world failure.constraint failure.value
-        (with_streams reply.streams (logged (event.HandlerCalled (handler_name e s.world.handler.current)) s)) refl value
-        (laws.handler row (told failure.class) s.world (library_handler (function_at e s.world.handler.current) row kind))
+        (with_streams reply.streams (logged (event.HandlerCalled (handler_name e s.world.handler.current)) s)) refl
+        value
+        (laws.handler row (told failure.class) s.world (library_handler (function_at e s.world.handler.current) row
+        kind))
         (at_streams (its_handler failure.constraint) reply.streams _
         (laws.call_flows row (told failure.class) s.world) (at_handler failure.constraint s due))
     handles_serves OfOtherType failure s kind value due = told_closes e s
@@ -418,7 +347,8 @@ module _ (e : Environment) where
 
     handler_ticks : (failure : Failure) (s : State) (ticks : ℕ) → ticks ≡ s.ticks
         → failure_at call.row failure.constraint ≡ Some failure.value → HandlerDue e s now failure.constraint
-        → Fine (bind (ticked_at ticks s) (λ u s1. handled e call failure (handles (function_at e s1.world.handler.current)) s1))
+        → Fine (bind (ticked_at ticks s) (λ u s1. handled e call failure (handles (function_at e
+        s1.world.handler.current)) s1))
     handler_ticks failure s zero is value due = no_tick failure.constraint s due
     handler_ticks failure s (suc left) is value due =
         handles_serves (handles (function_at e s.world.handler.current)) failure (record s { ticks = left }) refl value
@@ -444,7 +374,7 @@ module _ (e : Environment) where
 
     -- What the row answers: once it has asked, and at first.
 
-    resumed_serves : (did : Did) (streams before : Streams) (handler : Handler) (s : State)
+    pub resumed_serves : (did : Did) (streams before : Streams) (handler : Handler) (s : State)
         → ResumeFits (laws.waits call.row args) call.row args (world s.world.store handler before) streams did
         → At e s now → Fine (served e call did s)
     resumed_serves (Done change set value) streams before handler s fits a =
@@ -455,7 +385,7 @@ module _ (e : Environment) where
         asked_serves (function_at e function) _ s refl fits a
     resumed_serves (Fails stop) streams before handler s fits a = row_stop_closes stop streams before handler s fits a
 
-    called_serves : (did : Did) (streams before : Streams) (handler : Handler) (s : State)
+    pub called_serves : (did : Did) (streams before : Streams) (handler : Handler) (s : State)
         → CallFits (laws.waits call.row args) call.row args (world s.world.store handler before) streams did
         → (a : At e s now) → a.flag ≡ false → Fine (served e call did s)
     called_serves (Done change set value) streams before handler s fits a fresh =
@@ -470,82 +400,3 @@ module _ (e : Environment) where
         asked_serves (function_at e function) _ s refl fits a
     called_serves (Fails stop) streams before handler s fits a fresh =
         row_stop_closes stop streams before handler s fits a
-
-  module _ (laws : KeepsLaws e.library) where
-    -- A call that has begun.
-
-    reads_called : (call : LibraryCall) (args : List Arg) (s : State) (calls : List OpenCall) (a : At e s calls)
-        → Reads (logged (event.Called call.row (line_values call.row (values_of args))) s)
-        (seen e false s (opened call.row args ∷ with_flag a.flag calls) AnyLine)
-    reads_called call args s calls a = reads_on s (event.Called call.row (line_values call.row (values_of args)))
-        (seen e a.flag s calls AnyLine) _ a.reads refl
-
-    begun_by : (test : Bool) (call : LibraryCall) (args : List Arg) (s : State) (calls : List OpenCall)
-        → sets_no_function e call.row (first_pointer args) ≡ test → At e s calls
-        → Serves e laws.waits calls
-        (begun_if test e call args (logged (event.Called call.row (line_values call.row (values_of args))) s))
-    begun_by true call args s calls is a =
-        let p : Pointer = first_pointer args in
-        let line : State = logged (event.Called call.row (line_values call.row (values_of args))) s in
-        let now : List OpenCall = opened call.row args ∷ with_flag a.flag calls in
-        let parts = and_parts _ _ is in
-        let pointer = and_parts _ _ parts.1 in
-        let r : Replay = seen e false line now AnyLine in
-        let trap : is_value_trap r L9 (value_shown e (Ptr p)) ≡ true =
-        or_right (is_call_trap L9 (value_shown e (Ptr p))) _ (setter_trap e call.row r.store p parts.0
-        (from_not (is_null p) pointer.0) (none_at (function_at e p) pointer.1)) in
-        told_closes e line (event.ValueFailed L9 call.pos (value_shown e (Ptr p))) r (Trapped L9 call.pos)
-        (reads_called call args s calls a)
-        (cond-true (is_value_trap r L9 (value_shown e (Ptr p))) _ _ trap) refl
-    begun_by false call args s calls is a =
-        let reply : Reply = e.library.call call.row args s.world in
-        let line : State = logged (event.Called call.row (line_values call.row (values_of args))) s in
-        called_serves laws call args a.flag calls reply.did reply.streams s.world.streams s.world.handler
-        (with_streams reply.streams line) (laws.call call.row args s.world a.world)
-        (record {
-          flag = false;
-          reads = reads_called call args s calls a;
-          world = record {
-            sized = a.world.sized;
-            bytes = bytes_left s.world.streams reply.streams (laws.call_flows call.row args s.world) a.world.bytes;
-          };
-          few = a.few;
-        }) refl
-
-    begun_serves : (call : LibraryCall) (args : List Arg) (s : State) (calls : List OpenCall) → At e s calls
-        → Serves e laws.waits calls (begun e call args s)
-    begun_serves call args s calls a =
-        begun_by (sets_no_function e call.row (first_pointer args)) call args s calls refl a
-
-    -- One that goes on.
-
-    gone_on_serves : (call : LibraryCall) (waits : Waits) (answer : Value) (s : State) (inner calls : List OpenCall)
-        → WaitingFor laws.waits call.row waits inner calls → At e s inner
-        → Serves e laws.waits calls (gone_on e call waits answer s)
-    gone_on_serves call (ForHandler k value) answer s inner calls w a =
-        at_failed laws call w.0 w.1 calls k value s w.3 (subst (At e s) w.2 a)
-    gone_on_serves call (ForFunction rest) answer s inner calls w a =
-        let reply : Reply = e.library.resume rest answer s.world in
-        resumed_serves laws call w.0 w.1 calls reply.did reply.streams s.world.streams s.world.handler
-        (with_streams reply.streams s) (laws.resume call.row w.0 rest answer s.world a.world w.3)
-        (at_streams (opened call.row w.0 ∷ with_flag w.1 calls) reply.streams s
-        (laws.resume_flows rest answer s.world) (subst (At e s) w.2 a))
-
-    -- A whole call.
-
-    module _ (enter : Enter) (enters : EnterKeeps e enter) where
-      completed_keeps : (n : ℕ) (calls : List OpenCall) (x : Evaluation Served) → Serves e laws.waits calls x
-          → Keeps e calls (completed e n enter x)
-      completed_keeps n calls (Stops outcome s) closes = closes
-      completed_keeps n calls (Gives (Answers value) s) a = a
-      completed_keeps zero calls (Gives (Wants f args suspended) s) w = quiet_closes e s w.0 OutOfTicks refl w.1
-      completed_keeps (suc n) calls (Gives (Wants f args suspended) s) w = keeps_bind e w.0 calls _ _
-          (enters f args suspended.call.pos s w.0 w.1)
-          (λ value s1 a1. completed_keeps n calls (continued e suspended value s1)
-          (gone_on_serves suspended.call suspended.waits value s1 w.0 calls w.2 a1))
-
-      pub call_keeps : (n : ℕ) (call : LibraryCall) (args : List Arg) (s : State) (calls : List OpenCall) → At e s calls
-          → Keeps e calls (library_call e n enter call args s)
-      call_keeps n call args s calls a = keeps_tick e calls calls s _ a (λ left is.
-          completed_keeps n calls (begun e call args (record s { ticks = left }))
-          (begun_serves call args (record s { ticks = left }) calls (at_tick e s calls left is a)))

@@ -1,7 +1,7 @@
 -- Loads, and the start of a run.
 use Rattle.std.proofs.Common.{◌≡◌, ℕ, ◌≤◌, ◌<◌, ◌+◌, false, List, [], ◌∷◌, length, refl, arith, ◌∙◌, length-append}
 use Rattle.std.proofs.lemmas.Bool.{cond_both}
-use Rattle.std.specs.Prelude.{ℤ, codes, Result, Ok, Err}
+use Rattle.std.specs.Prelude.{codes, Result, Ok, Err}
 use Rattle.std.specs.List.{All}
 use Rattle.std.proofs.lemmas.List.Elements.{All-nil, All-head, All-tail}
 use Rattle.acc_num.specs.declared.kind.IntKind.{IntKind}
@@ -11,20 +11,19 @@ use Rattle.critical_table.specs.declared.pos.Pos.{Pos}
 use Rattle.object_store.specs.declared.class.Class.TheVariants.{Static}
 use Rattle.object_store.specs.declared.pointer.Pointer.{Pointer}
 use Rattle.object_store.specs.Messages.{message_bytes}
-use Rattle.object_store.specs.Object.{Object}
 use Rattle.object_store.specs.Steps.{next_number, bytes_at}
 use Rattle.object_store.specs.Load.{load_integer, load_pointer}
 use Rattle.lib_defs.specs.Units.{rsize_max}
 use Rattle.lib_defs.specs.World.{Input}
 use Rattle.run_defs.specs.declared.seal.Seal.{Seal}
 use Rattle.run_defs.specs.State.{State, static_made, has_range, sealed}
-use Rattle.run_defs.specs.Evaluation.{Evaluation, bind}
 use Rattle.run_defs.specs.Loads.{pointer_size, pointer_align, read_attempt, found, number_loaded, pointer_loaded}
 use Rattle.run_defs.specs.Functions.{Environment, handler_name}
 use Rattle.run_defs.specs.Starts.{Budgets, StaticObject, empty_state, all_sealed, placed, messages, start_state}
 use Rattle.run_defs.specs.Starts.{statics_placed}
-use Rattle.run_defs.specs.Replay.{OpenCall, at_start}
-use Rattle.run_defs.proofs.Following.{most_objects, At, Keeps, at_static_made, at_sealed, undefined_closes}
+use Rattle.run_defs.specs.Replay.{OpenCall}
+use Rattle.run_defs.specs.Kept.{most_objects, At, Keeps}
+use Rattle.run_defs.proofs.Following.{at_static_made, at_sealed, undefined_closes}
 use Rattle.run_defs.proofs.Following.{keeps_within, keeps_reach}
 use Rattle.run_defs.proofs.Worlds.{Sized, length-mark}
 
@@ -47,7 +46,8 @@ module _ (e : Environment) where
 
   pub pointer_keeps : (place : Pointer) (pos : Pos) (s : State) (calls : List OpenCall) → At e s calls
       → Keeps e calls (pointer_loaded place pos s)
-  pointer_keeps place pos s calls a = keeps_reach e calls calls (read_attempt place pointer_size pointer_align) pos s _ a
+  pointer_keeps place pos s calls a = keeps_reach e calls calls
+      (read_attempt place pointer_size pointer_align) pos s _ a
       (λ is. found_keeps (load_pointer (bytes_at s.world.store place pointer_size)) pos s calls a)
 
   at_all_sealed : (number : ℕ) (seals : List Seal) (s : State) (calls : List OpenCall) → At e s calls
@@ -88,8 +88,10 @@ module _ (e : Environment) where
       (at_placed object s calls (All-head IsStatic object objects static) (omega (arith, room)) a))
 
   -- Before the first line, and behind the message object: the handler is abort_handler_s.
-  pub at_begin : (budgets : Budgets) (input : Input) (handler : Pointer) → handler_name e handler ≡ codes "abort_handler_s"
-      → All (λ (b : ℕ). b < 256) input.bytes → budgets.ticks < most_objects → At e (start_state budgets input handler) []
+  pub at_begin : (budgets : Budgets) (input : Input) (handler : Pointer)
+      → handler_name e handler ≡ codes "abort_handler_s"
+      → All (λ (b : ℕ). b < 256) input.bytes → budgets.ticks < most_objects
+      → At e (start_state budgets input handler) []
   unfolding message_bytes
   at_begin budgets input handler name bytes room = at_placed messages (empty_state budgets input handler) []
       (record { some = omega arith; within = omega arith }) (omega (arith, room))

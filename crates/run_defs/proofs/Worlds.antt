@@ -1,6 +1,7 @@
 -- The worlds of a run: objects keep the sizes that a store makes, and the input stays bytes.
-use Rattle.std.proofs.Common.{◌≡◌, ℕ, ◌+◌, ◌≤◌, ◌<◌, List, [], ◌∷◌, ◌++◌, length, map, set, slice_get, Option, Some, None, refl}
-use Rattle.std.proofs.Common.{false, arith, subst, sym, length-append, length-drop}
+use Rattle.std.proofs.Common.{◌≡◌, ℕ, ◌≤◌, ◌<◌, List, [], ◌∷◌, ◌++◌, length, map, set, slice_get, Option, Some, None}
+use Rattle.std.proofs.Common.{refl}
+use Rattle.std.proofs.Common.{false, arith, subst, length-append, length-drop}
 use Rattle.std.specs.Option.{option_map_or}
 use Rattle.std.specs.List.{All}
 use Rattle.std.proofs.lemmas.List.{length-map, length-take, length-replicate, length-set}
@@ -20,12 +21,14 @@ use Rattle.lib_defs.specs.Units.{rsize_max}
 use Rattle.lib_defs.specs.World.{Streams, Flows}
 use Rattle.lib_defs.specs.Laws.{IsSized}
 use Rattle.run_defs.specs.State.{static_object}
-use Rattle.run_defs.proofs.Outlines.{outlined, outline, outlines, outlines-stored}
+use Rattle.run_defs.specs.Kept.{outlined, outline, outlines}
+use Rattle.run_defs.proofs.Outlines.{outlines-stored}
 
 abbrev pub Sized : Object → Type 0
 Sized o = length o.cells ≤ rsize_max
 
-pub sized_new : (s : Storage) (size : ℕ) (class : Class) → size ≤ rsize_max → IsSized s → IsSized (with_new s size class)
+pub sized_new : (s : Storage) (size : ℕ) (class : Class) → size ≤ rsize_max → IsSized s
+    → IsSized (with_new s size class)
 sized_new s size class le sized =
     All-push Sized s.objects (new_object size class) sized (rw (length-replicate size (stored_cell None)) le)
 

@@ -14,7 +14,8 @@ use Rattle.lib_defs.specs.declared.value.Value.{Value}
 use Rattle.lib_defs.specs.declared.value.Value.TheVariants.{Num, Ptr}
 use Rattle.lib_defs.specs.declared.violation.Violation.{Violation}
 use Rattle.lib_defs.specs.Violations.{errno_of, message_place}
-use Rattle.lib_defs.specs.Reply.{Fill, Change, Stop, FailsReach, FailsValue, FailsArgument, IsUndefined, Ends, Did, Done}
+use Rattle.lib_defs.specs.Reply.{Fill, Change, Stop, FailsReach, FailsValue, FailsArgument, IsUndefined, Ends, Did}
+use Rattle.lib_defs.specs.Reply.{Done}
 use Rattle.lib_defs.specs.Reply.{Broken, Asks, Fails, patch_of, null}
 use Rattle.lib_defs.specs.Columns.{is_null}
 use Rattle.lib_defs.specs.Shown.{line_values}
