@@ -13,8 +13,7 @@ use Rattle.run_defs.specs.Lines.{event_text}
 use Rattle.run_defs.specs.Evaluation.{Gives, bind, whole}
 use Rattle.run_defs.specs.Calls.{Enter}
 use Rattle.run_defs.proofs.ExampleRuns.{h, g, d, long, to_function, ignore_handler, ptr, size, calls, strcpy}
-use Rattle.run_defs.proofs.ExampleRuns.{set_handler}
-use Rattle.run_defs.proofs.ExampleRuns.{returns, shows, handled_by, done}
+use Rattle.run_defs.proofs.ExampleRuns.{set_handler, returns, shows, handled_by, done}
 
 -- set_constraint_handler_s(h), and with ignore_handler_s
 abbrev set_h : List (List ℕ)

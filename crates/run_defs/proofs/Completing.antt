@@ -1,6 +1,5 @@
 -- A whole library call: it begins, goes on as often as a function of the unit has returned, and is closed.
-use Rattle.std.proofs.Common.{◌≡◌, ℕ, zero, suc, Bool, true, false, List, ◌∷◌}
-use Rattle.std.proofs.Common.{refl, subst}
+use Rattle.std.proofs.Common.{◌≡◌, ℕ, zero, suc, Bool, true, false, List, ◌∷◌, refl, subst}
 use Rattle.std.proofs.lemmas.Bool.{or_right, cond-true, and_parts}
 use Rattle.critical_table.specs.declared.case.Case.TheVariants.{L9}
 use Rattle.object_store.specs.declared.pointer.Pointer.{Pointer}
@@ -19,20 +18,14 @@ use Rattle.run_defs.specs.declared.library_call.Waits.TheVariants.{ForHandler, F
 use Rattle.run_defs.specs.declared.outcome.Outcome.TheVariants.{Trapped, OutOfTicks}
 use Rattle.run_defs.specs.State.{State, logged, with_streams}
 use Rattle.run_defs.specs.Evaluation.{Evaluation, Gives, Stops}
-use Rattle.run_defs.specs.Functions.{Environment, function_at}
-use Rattle.run_defs.specs.Functions.{value_shown}
-use Rattle.run_defs.specs.Served.{Served, Answers, Wants}
-use Rattle.run_defs.specs.Served.{sets_no_function, begun_if, begun, gone_on, continued}
+use Rattle.run_defs.specs.Functions.{Environment, function_at, value_shown}
+use Rattle.run_defs.specs.Served.{Served, Answers, Wants, sets_no_function, begun_if, begun, gone_on, continued}
 use Rattle.run_defs.specs.Calls.{Enter, completed, library_call}
 use Rattle.run_defs.specs.Fits.{is_call_trap}
-use Rattle.run_defs.specs.Replay.{OpenCall, AnyLine}
-use Rattle.run_defs.specs.Replay.{Replay, is_value_trap}
-use Rattle.run_defs.specs.Kept.{Reads, with_flag, seen, At, Keeps, EnterKeeps}
-use Rattle.run_defs.specs.Kept.{CallsAreLawful}
+use Rattle.run_defs.specs.Replay.{OpenCall, AnyLine, Replay, is_value_trap}
+use Rattle.run_defs.specs.Kept.{Reads, with_flag, seen, At, Keeps, EnterKeeps, CallsAreLawful}
 use Rattle.run_defs.proofs.Worlds.{bytes_left}
-use Rattle.run_defs.proofs.Following.{reads_on}
-use Rattle.run_defs.proofs.Following.{quiet_closes, told_closes}
-use Rattle.run_defs.proofs.Following.{keeps_bind, keeps_tick, at_tick}
+use Rattle.run_defs.proofs.Following.{reads_on, quiet_closes, told_closes, keeps_bind, keeps_tick, at_tick}
 use Rattle.run_defs.proofs.RowLines.{from_not, none_at, setter_trap}
 use Rattle.run_defs.proofs.Serving.{opened, WaitingFor, Serves, at_streams, at_failed, resumed_serves, called_serves}
 

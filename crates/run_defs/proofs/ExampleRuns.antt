@@ -1,7 +1,6 @@
 -- A small program and its library calls, for examples.
 use Rattle.std.specs.Prelude.{ℕ, zero, suc, ◌+◌, ◌++◌, true, false, pos as positive, List, [], ◌∷◌, map, codes}
-use Rattle.std.specs.Prelude.{slice_get}
-use Rattle.std.specs.Prelude.{Option, None}
+use Rattle.std.specs.Prelude.{slice_get, Option, None}
 use Rattle.critical_table.specs.declared.pos.Pos.{Pos}
 use Rattle.object_store.specs.declared.mark.Mark.TheVariants.{Literal}
 use Rattle.object_store.specs.declared.pointer.Pointer.{Pointer}

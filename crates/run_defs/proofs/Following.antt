@@ -1,7 +1,6 @@
 -- How the replay of a journal goes on, line by line, and what is kept over the evaluations of a unit's parts.
 use Rattle.std.proofs.Common.{◌≡◌, ℕ, zero, suc, ◌≤◌, Bool, true, false, List, [], ◌∷◌, ◌++◌, length, Option, Some}
-use Rattle.std.proofs.Common.{None, refl}
-use Rattle.std.proofs.Common.{◌+◌, arith, ap, sym, ◌∙◌, length-append}
+use Rattle.std.proofs.Common.{None, refl, ◌+◌, arith, ap, sym, ◌∙◌, length-append}
 use Rattle.std.specs.Option.{option_and_then}
 use Rattle.std.proofs.lemmas.Bool.{le-leb, eq-eqb, and_from, or_left, cond-true, cond_both}
 use Rattle.critical_table.specs.declared.case.Case.{Case}
@@ -27,11 +26,10 @@ use Rattle.run_defs.specs.declared.outcome.Outcome.{Outcome}
 use Rattle.run_defs.specs.declared.outcome.Outcome.TheVariants.{Trapped, Undefined, OutOfTicks, OutOfBytes}
 use Rattle.run_defs.specs.declared.seal.Seal.{Seal}
 use Rattle.run_defs.specs.Outcomes.{end_of}
-use Rattle.run_defs.specs.State.{State, logged, made, static_made, has_range, sealed, died, bytes_patched}
-use Rattle.run_defs.specs.State.{patched, call_left}
-use Rattle.run_defs.specs.Evaluation.{Evaluation, Gives, Stops, bind, ticked_at}
-use Rattle.run_defs.specs.Evaluation.{ticked, within_if, within, reached_if, reached, store_attempt, stored}
-use Rattle.run_defs.specs.Evaluation.{automatic_made, call_entered}
+use Rattle.run_defs.specs.State.{State, logged, made, static_made, has_range, sealed, died, bytes_patched, patched}
+use Rattle.run_defs.specs.State.{call_left}
+use Rattle.run_defs.specs.Evaluation.{Evaluation, Gives, Stops, bind, ticked_at, ticked, within_if, within, reached_if}
+use Rattle.run_defs.specs.Evaluation.{reached, store_attempt, stored, automatic_made, call_entered}
 use Rattle.run_defs.specs.Functions.{Environment}
 use Rattle.run_defs.specs.Fits.{same_case, same_code, is_quiet, is_told, is_case, is_call_trap}
 use Rattle.run_defs.specs.Replay.{Phase, Running, Handling, OpenCall, AnyLine, TheEnd, NoLine, Replay, stored_phase}

@@ -3,7 +3,9 @@ pub mod Integers
 pub mod Judging
 pub mod ExampleRuns
 pub mod CallExamples
+pub mod ExampleLines
 pub mod JournalExamples
+pub mod TrapExamples
 pub mod Outlines
 pub mod Worlds
 pub mod Following

@@ -19,8 +19,7 @@ use Rattle.object_store.specs.declared.pointer.Pointer.{Pointer}
 use Rattle.object_store.specs.Object.{Object, number_of, place_of, numbered, object_of}
 use Rattle.object_store.specs.Storage.{Storage, is_live}
 use Rattle.object_store.specs.Steps.{stored_cell, new_object, next_number, with_new, update, with_dead, with_cells}
-use Rattle.object_store.specs.Steps.{range}
-use Rattle.object_store.specs.Steps.{mark_cell, with_mark, with_bytes}
+use Rattle.object_store.specs.Steps.{range, mark_cell, with_mark, with_bytes}
 use Rattle.object_store.specs.Ranges.{IsLiveRange}
 use Rattle.object_store.specs.Reach.{reach, IsReachedToStore}
 use Rattle.object_store.proofs.RangeLemmas.{in_range_to_store, with_bytes_at}

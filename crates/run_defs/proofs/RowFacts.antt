@@ -1,7 +1,6 @@
 -- What the laws of rows say of a line: failure values, releases, and the handler that is set.
 use Rattle.std.proofs.Common.{◌≡◌, ℕ, ◌≤◌, ◌==◌, ◌%◌, ◌&&◌, Bool, true, false, not, List, [], Option, Some, None, refl}
-use Rattle.std.proofs.Common.{arith}
-use Rattle.std.proofs.Common.{subst, sym, ◌∙◌, length, cond}
+use Rattle.std.proofs.Common.{arith, subst, sym, ◌∙◌, length, cond}
 use Rattle.std.specs.Prelude.{nat_lt, IfSome}
 use Rattle.std.specs.Option.{option_and_then}
 use Rattle.std.proofs.lemmas.Bool.{ne_eqb, ltb-false}

@@ -1,6 +1,6 @@
 -- Tests of a line's row, and ranges that stay reached.
-use Rattle.std.proofs.Common.{◌≡◌, ℕ, Bool, true, false, not, ◌&&◌, List, [], ◌∷◌, length, Option}
-use Rattle.std.proofs.Common.{Some, None, cond, refl, ap, subst, sym, ◌∙◌}
+use Rattle.std.proofs.Common.{◌≡◌, ℕ, Bool, true, false, not, ◌&&◌, List, [], ◌∷◌, length, Option, Some, None, cond}
+use Rattle.std.proofs.Common.{refl, ap, subst, sym, ◌∙◌}
 use Rattle.std.specs.Prelude.{is_none}
 use Rattle.std.proofs.lemmas.Bool.{eq-eqb, and_from, or_right}
 use Rattle.critical_table.specs.declared.case.Case.{Case}
@@ -19,13 +19,12 @@ use Rattle.lib_defs.specs.declared.value.Value.TheVariants.{Ptr}
 use Rattle.lib_defs.specs.RowNumbers.{name_at}
 use Rattle.lib_defs.specs.Reply.{Patch}
 use Rattle.lib_defs.specs.Columns.{is_null}
-use Rattle.lib_defs.specs.Laws.{AreReached}
-use Rattle.lib_defs.specs.Laws.{is_handler}
+use Rattle.lib_defs.specs.Laws.{AreReached, is_handler}
 use Rattle.run_defs.specs.Outcomes.{row_outcome, end_of}
 use Rattle.run_defs.specs.State.{State, bytes_patched}
 use Rattle.run_defs.specs.RowKinds.{is_setter, is_printer, is_release_name, is_release}
-use Rattle.run_defs.specs.Functions.{Function, OfLibrary, OfUnit, Environment, function_at}
-use Rattle.run_defs.specs.Functions.{value_shown, ByLibrary, OfOtherType, handles}
+use Rattle.run_defs.specs.Functions.{Function, OfLibrary, OfUnit, Environment, function_at, value_shown, ByLibrary}
+use Rattle.run_defs.specs.Functions.{OfOtherType, handles}
 use Rattle.run_defs.specs.Fits.{same_row, is_quiet, is_case, release_trap, is_row_trap}
 use Rattle.run_defs.specs.Kept.{outlines}
 use Rattle.run_defs.proofs.Outlines.{reach-outlines, outlines-stored}

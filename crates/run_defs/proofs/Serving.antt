@@ -24,15 +24,14 @@ use Rattle.lib_defs.specs.declared.value.Value.TheVariants.{Ptr}
 use Rattle.lib_defs.specs.Units.{rsize_max}
 use Rattle.lib_defs.specs.RowNumbers.{name_at}
 use Rattle.lib_defs.specs.Reply.{Patch, Fill, Change, Stop, FailsReach, FailsValue, FailsArgument, IsUndefined, Ends}
-use Rattle.lib_defs.specs.Reply.{Did}
-use Rattle.lib_defs.specs.Reply.{Done, Broken, Asks, Fails, with_made}
+use Rattle.lib_defs.specs.Reply.{Did, Done, Broken, Asks, Fails, with_made}
 use Rattle.lib_defs.specs.Columns.{is_null}
 use Rattle.lib_defs.specs.Shown.{line_values, line_decisions, line_action, failure_at, none_fails, is_first_failing}
 use Rattle.lib_defs.specs.Shown.{write_of_len, write_of}
 use Rattle.lib_defs.specs.World.{Streams, World, Reply, Flows, world}
 use Rattle.lib_defs.specs.Library.{values_of}
-use Rattle.lib_defs.specs.Laws.{IfMade, IfSet, AreReached, IfReached, StopFits, ValueFits}
-use Rattle.lib_defs.specs.Laws.{RowStopFits, CallFits, ResumeFits, HandlerFits, KeepsLaws, IsWorld}
+use Rattle.lib_defs.specs.Laws.{IfMade, IfSet, AreReached, IfReached, StopFits, ValueFits, RowStopFits, CallFits}
+use Rattle.lib_defs.specs.Laws.{ResumeFits, HandlerFits, KeepsLaws, IsWorld}
 use Rattle.run_defs.specs.declared.event.Event.TheVariants as event
 use Rattle.run_defs.specs.declared.library_call.LibraryCall.{LibraryCall}
 use Rattle.run_defs.specs.declared.library_call.Waits.{Waits}
@@ -44,18 +43,15 @@ use Rattle.run_defs.specs.State.{State, logged, with_streams, made, bytes_patche
 use Rattle.run_defs.specs.Evaluation.{Evaluation, Gives, Stops, bind, ticked_at}
 use Rattle.run_defs.specs.Functions.{Function, OfLibrary, OfUnit, Environment, function_at, function_name, handler_name}
 use Rattle.run_defs.specs.Functions.{value_shown, function_number, Handles, ByUnit, ByLibrary, OfOtherType, handles}
-use Rattle.run_defs.specs.Served.{Served, Answers, Wants, stopped, row_made, row_released, row_set, returned}
-use Rattle.run_defs.specs.Served.{acted, told, handler_returned, row_handled, Failure, handled, Wish, asked, served}
+use Rattle.run_defs.specs.Served.{Served, Answers, Wants, stopped, row_made, row_released, row_set, returned, acted}
+use Rattle.run_defs.specs.Served.{told, handler_returned, row_handled, Failure, handled, Wish, asked, served}
 use Rattle.run_defs.specs.Fits.{same_case, is_row_trap}
-use Rattle.run_defs.specs.Replay.{Handling, OpenCall, open_call, AnyLine, TheHandler, TheReturn, NoLine}
-use Rattle.run_defs.specs.Replay.{due_action}
+use Rattle.run_defs.specs.Replay.{Handling, OpenCall, open_call, AnyLine, TheHandler, TheReturn, NoLine, due_action}
 use Rattle.run_defs.specs.Kept.{outlined_store, Reads, with_flag, seen, most_objects, At, Closes}
 use Rattle.run_defs.proofs.Outlines.{outlines-stored, is_store-outlines}
 use Rattle.run_defs.proofs.Worlds.{sized_stored, length-stored, bytes_left}
-use Rattle.run_defs.proofs.Following.{reads_on, same_case_itself}
-use Rattle.run_defs.proofs.Following.{at_made, at_died, at_patched, quiet_closes, told_closes, reach_closes}
-use Rattle.run_defs.proofs.Following.{value_closes}
-use Rattle.run_defs.proofs.Following.{undefined_closes, at_tick}
+use Rattle.run_defs.proofs.Following.{reads_on, same_case_itself, at_made, at_died, at_patched, quiet_closes}
+use Rattle.run_defs.proofs.Following.{told_closes, reach_closes, value_closes, undefined_closes, at_tick}
 use Rattle.run_defs.proofs.RowFacts.{failure_shown, release_shown, no_function, no_handler}
 use Rattle.run_defs.proofs.RowLines.{same_row_itself, setter_row, printer_row, release_row, library_handler, from_not}
 use Rattle.run_defs.proofs.RowLines.{row_quiet, all_reached, outlines-patched}

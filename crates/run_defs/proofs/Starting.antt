@@ -23,8 +23,7 @@ use Rattle.run_defs.specs.Starts.{Budgets, StaticObject, empty_state, all_sealed
 use Rattle.run_defs.specs.Starts.{statics_placed}
 use Rattle.run_defs.specs.Replay.{OpenCall}
 use Rattle.run_defs.specs.Kept.{most_objects, At, Keeps}
-use Rattle.run_defs.proofs.Following.{at_static_made, at_sealed, undefined_closes}
-use Rattle.run_defs.proofs.Following.{keeps_within, keeps_reach}
+use Rattle.run_defs.proofs.Following.{at_static_made, at_sealed, undefined_closes, keeps_within, keeps_reach}
 use Rattle.run_defs.proofs.Worlds.{Sized, length-mark}
 
 -- a static object has a size that a store makes

@@ -15,8 +15,7 @@ use Rattle.run_defs.specs.Evaluation.{Evaluation, Gives, Stops, finished}
 use Rattle.run_defs.specs.Functions.{Environment, handler_name}
 use Rattle.run_defs.specs.Calls.{Enter, library_call}
 use Rattle.run_defs.specs.Replay.{Phase, Running, Handling, OpenCall, Due, AnyLine, Replay, with_phase, replay}
-use Rattle.run_defs.specs.Replay.{at_start}
-use Rattle.run_defs.specs.Replay.{IsLawful}
+use Rattle.run_defs.specs.Replay.{at_start, IsLawful}
 
 -- a cell without its byte
 abbrev pub outlined : Cell → Cell
