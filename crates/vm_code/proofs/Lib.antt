@@ -4,3 +4,5 @@ mod ObjectRuns
 mod CallRuns
 mod LibraryRuns
 pub mod Fronts
+mod TicksFall
+mod ServedTicks
