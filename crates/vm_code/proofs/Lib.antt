@@ -6,3 +6,4 @@ mod LibraryRuns
 pub mod Fronts
 mod TicksFall
 mod ServedTicks
+mod AccessTicks
