@@ -7,3 +7,4 @@ pub mod Fronts
 mod TicksFall
 mod ServedTicks
 mod AccessTicks
+mod Weights
