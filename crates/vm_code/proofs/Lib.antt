@@ -8,3 +8,4 @@ mod TicksFall
 mod ServedTicks
 mod AccessTicks
 mod Weights
+mod Acting

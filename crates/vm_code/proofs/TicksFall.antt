@@ -13,6 +13,7 @@ use Rattle.object_store.specs.Reach.{reach}
 use Rattle.lib_defs.specs.declared.value.Value.{Value}
 use Rattle.lib_defs.specs.Reply.{Patch}
 use Rattle.run_defs.specs.declared.attempt.Attempt.{Attempt}
+use Rattle.run_defs.specs.declared.seal.Seal.{Seal}
 use Rattle.run_defs.specs.State.{State, with_storage, made, bytes_patched, patched, all_patched, died, sealed}
 use Rattle.run_defs.specs.Evaluation.{Evaluation, Gives, Stops, bind, ticked_at, ticked, within_if, reached_if, reached}
 use Rattle.run_defs.specs.Evaluation.{within, store_attempt, stored, whole, automatic_made, call_entered}
@@ -41,6 +42,9 @@ died_ticks number s = if_ticks _ _ _ s.ticks refl refl
 pub all_died_ticks : (numbers : List ℕ) (s : State) → (all_died numbers s).ticks ≡ s.ticks
 all_died_ticks [] s = refl
 all_died_ticks (number ∷ rest) s = all_died_ticks rest (died number s) ∙ died_ticks number s
+
+pub sealed_ticks : (number : ℕ) (seal : Seal) (s : State) → (sealed number seal s).ticks ≡ s.ticks
+sealed_ticks number seal s = if_ticks _ _ _ s.ticks refl refl
 
 -- ---- evaluations
 
