@@ -101,18 +101,18 @@ pub leaves_copied : (len : ℕ) (to from : Pointer) (pos : Pos) (t : ℕ) (s : S
 leaves_copied len to from pos t s le =
     leaves_bind t (reached (record { place = to; len = len; align = 1; by = Store }) pos s)
     (λ u s1. bind (apart_if (overlap_partly len to from) pos s1) (λ v s2.
-        bind (reached (read_attempt from len 1) pos s2) (λ w s3.
-        Gives tt (patched (record { place = to; bytes = bytes_at s3.world.store from len }) s3))))
+    bind (reached (read_attempt from len 1) pos s2) (λ w s3.
+    Gives tt (patched (record { place = to; bytes = bytes_at s3.world.store from len }) s3))))
     (leaves_reached (record { place = to; len = len; align = 1; by = Store }) pos t s le)
     (λ u s1 le1. leaves_bind t (apart_if (overlap_partly len to from) pos s1)
     (λ v s2. bind (reached (read_attempt from len 1) pos s2) (λ w s3.
-        Gives tt (patched (record { place = to; bytes = bytes_at s3.world.store from len }) s3)))
+    Gives tt (patched (record { place = to; bytes = bytes_at s3.world.store from len }) s3)))
     (leaves_apart (overlap_partly len to from) pos t s1 le1)
     (λ v s2 le2. leaves_bind t (reached (read_attempt from len 1) pos s2)
     (λ w s3. Gives tt (patched (record { place = to; bytes = bytes_at s3.world.store from len }) s3))
     (leaves_reached (read_attempt from len 1) pos t s2 le2)
     (λ w s3 le3. let P : ℕ → Type 0 = λ n. n ≤ t in
-        subst P (sym (patched_ticks (record { place = to; bytes = bytes_at s3.world.store from len }) s3)) le3)))
+    subst P (sym (patched_ticks (record { place = to; bytes = bytes_at s3.world.store from len }) s3)) le3)))
 
 pub leaves_reaches : (p : Pointer) (len align : ℕ) (by : By) (pos : Pos) (t : ℕ) (s : State) → s.ticks ≤ t
     → Leaves t (reaches p len align by pos s)
@@ -127,7 +127,7 @@ leaves_text p text pos t s le =
     (λ u s1. Gives tt (patched (record { place = p; bytes = known text }) s1))
     (leaves_reached (record { place = p; len = size 1 (length text); align = 1; by = Store }) pos t s le)
     (λ u s1 le1. let P : ℕ → Type 0 = λ n. n ≤ t in
-        subst P (sym (patched_ticks (record { place = p; bytes = known text }) s1)) le1)
+    subst P (sym (patched_ticks (record { place = p; bytes = known text }) s1)) le1)
 
 -- ---- the parameters of a call
 
@@ -146,11 +146,11 @@ leaves_parameters slot (p ∷ ps) [] held pos t s le = le
 leaves_parameters slot (p ∷ ps) (v ∷ vs) held pos t s le =
     leaves_bind t (automatic_made p.size s)
     (λ place s1. bind (argument_stored p.form p.size place v pos s1) (λ u s2.
-        parameters_made (slot + 1) ps vs (record { slot = slot; number = place.object; size = p.size } ∷ held) pos s2))
+    parameters_made (slot + 1) ps vs (record { slot = slot; number = place.object; size = p.size } ∷ held) pos s2))
     (leaves_made p.size t s le)
     (λ place s1 le1. leaves_bind t (argument_stored p.form p.size place v pos s1)
     (λ u s2. parameters_made (slot + 1) ps vs
-        (record { slot = slot; number = place.object; size = p.size } ∷ held) pos s2)
+    (record { slot = slot; number = place.object; size = p.size } ∷ held) pos s2)
     (leaves_argument p.form p.size place v pos t s1 le1)
     (λ u s2 le2. leaves_parameters (slot + 1) ps vs
-        (record { slot = slot; number = place.object; size = p.size } ∷ held) pos t s2 le2))
+    (record { slot = slot; number = place.object; size = p.size } ∷ held) pos t s2 le2))

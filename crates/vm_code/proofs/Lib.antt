@@ -9,3 +9,4 @@ mod ServedTicks
 mod AccessTicks
 mod Weights
 mod Acting
+mod ActingOn

@@ -69,8 +69,8 @@ changes_le : (e : Environment) (change : Change) (set : Option Pointer) (t : ℕ
 unfolding changes
 changes_le e change set t s le =
     let same : (row_set e set (row_released change.released (all_patched change.stores s))).ticks ≡ s.ticks =
-        set_ticks e set (row_released change.released (all_patched change.stores s))
-        ∙ released_ticks change.released (all_patched change.stores s) ∙ all_patched_ticks change.stores s in
+    set_ticks e set (row_released change.released (all_patched change.stores s))
+    ∙ released_ticks change.released (all_patched change.stores s) ∙ all_patched_ticks change.stores s in
     let P : ℕ → Type 0 = λ n. n ≤ t in subst P (sym same) le
 
 leaves_row_made : (size : Option ℕ) (t : ℕ) (s : State) → s.ticks ≤ t → Leaves t (row_made size s)

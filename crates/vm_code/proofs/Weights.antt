@@ -74,7 +74,7 @@ pub within_after : {A : Type 0} (code : Contents) (m t : ℕ) (x : Evaluation A)
 within_after code m t (Gives value s) next le enough go = go value s le
 within_after code m t (Stops outcome s) next le enough go =
     let less : spent (length code.instrs) s.ticks ≤ spent (length code.instrs) t =
-        spent_le (length code.instrs) s.ticks t le in omega (arith, less, enough)
+    spent_le (length code.instrs) s.ticks t le in omega (arith, less, enough)
 
 -- behind a tick
 within_ticked : (code : Contents) (m n t : ℕ) (s : State) (next : State → Place) → s.ticks ≤ t → n ≤ t
@@ -82,7 +82,7 @@ within_ticked : (code : Contents) (m n t : ℕ) (s : State) (next : State → Pl
     → Within code m (after (ticked_at n s) (λ u s1. next s1))
 within_ticked code m zero t s next le less enough go =
     let under : spent (length code.instrs) s.ticks ≤ spent (length code.instrs) t =
-        spent_le (length code.instrs) s.ticks t le in omega (arith, under, enough)
+    spent_le (length code.instrs) s.ticks t le in omega (arith, under, enough)
 within_ticked code m (suc n) t s next le less enough go = go (record s { ticks = n }) (omega (arith, less))
 
 -- ---- calls
@@ -95,16 +95,16 @@ within_entered_if false code m f entry frames s enough = tt
 within_entered_if true code m f entry frames s enough =
     within_after code m s.ticks (call_entered s)
     (λ u s1. after (parameters_made 0 f.parameters entry.arguments [] entry.pos s1) (λ held s2.
-        Goes (Active (activation entry f held) ∷ frames) s2))
+    Goes (Active (activation entry f held) ∷ frames) s2))
     (leaves_entered s.ticks s (omega arith)) (omega (arith, enough))
     (λ u s1 le1. within_after code m s.ticks (parameters_made 0 f.parameters entry.arguments [] entry.pos s1)
     (λ held s2. Goes (Active (activation entry f held) ∷ frames) s2)
     (leaves_parameters 0 f.parameters entry.arguments [] entry.pos s.ticks s1 le1) (omega (arith, enough))
     (λ held s2 le2.
-        let less : spent (length code.instrs) s2.ticks ≤ spent (length code.instrs) s.ticks =
-            spent_le (length code.instrs) s2.ticks s.ticks le2 in
-        let rest : rest_at code f.start ≤ length code.instrs = rest_le code f.start in
-        omega (arith, less, rest, enough)))
+    let less : spent (length code.instrs) s2.ticks ≤ spent (length code.instrs) s.ticks =
+    spent_le (length code.instrs) s2.ticks s.ticks le2 in
+    let rest : rest_at code f.start ≤ length code.instrs = rest_le code f.start in
+    omega (arith, less, rest, enough)))
 
 within_entered_at : (o : Option CodeFunction) (code : Contents) (m : ℕ) (entry : Entry) (frames : List Frame)
     (s : State) → spent (length code.instrs) s.ticks + length code.instrs + weights code frames ≤ m
@@ -125,11 +125,11 @@ within_replied : (code : Contents) (m t : ℕ) (x : Evaluation Served) (frames :
     → ((v : Value) (s : State) → s.ticks ≤ t → Within code m (next v s)) → Within code m (replied code x frames next)
 within_replied code m t (Stops outcome s) frames next le enough go =
     let less : spent (length code.instrs) s.ticks ≤ spent (length code.instrs) t =
-        spent_le (length code.instrs) s.ticks t le in omega (arith, less, enough)
+    spent_le (length code.instrs) s.ticks t le in omega (arith, less, enough)
 within_replied code m t (Gives (Answers v) s) frames next le enough go = go v s le
 within_replied code m t (Gives (Wants function arguments call) s) frames next less enough go =
     let paid : spent (length code.instrs) s.ticks + (length code.instrs + length code.instrs)
-        ≤ spent (length code.instrs) t = spent_less (length code.instrs) s.ticks t less in
+    ≤ spent (length code.instrs) t = spent_less (length code.instrs) s.ticks t less in
     within_entered code m _ (Waiting call ∷ frames) s (omega (arith, paid, enough))
 
 pub within_returned : (e : Environment) (code : Contents) (m : ℕ) (left : List Value) (v : Value)
@@ -141,8 +141,8 @@ within_returned e code m left v (Waiting call ∷ frames) s enough =
     within_replied code m s.ticks (continued e call v s) frames (λ w s1. returned e code (row_left w) w frames s1)
     (serves_continued e call v s.ticks s (omega arith)) enough
     (λ w s1 le. let less : spent (length code.instrs) s1.ticks ≤ spent (length code.instrs) s.ticks =
-        spent_le (length code.instrs) s1.ticks s.ticks le in
-        within_returned e code m (row_left w) w frames s1 (omega (arith, less, enough)))
+    spent_le (length code.instrs) s1.ticks s.ticks le in
+    within_returned e code m (row_left w) w frames s1 (omega (arith, less, enough)))
 
 pub within_leaves : (e : Environment) (code : Contents) (m : ℕ) (gives : Form) (a : Activation) (v : Value)
     (frames : List Frame) (s : State) → spent (length code.instrs) s.ticks + weights code frames ≤ m
@@ -157,19 +157,19 @@ within_row_called : (e : Environment) (code : Contents) (m t : ℕ) (f : Functio
     → Within code m (row_called e code f called entry frames s)
 within_row_called e code m t (OfUnit name handles compares) called entry frames s less enough =
     let paid : spent (length code.instrs) s.ticks + (length code.instrs + length code.instrs)
-        ≤ spent (length code.instrs) t = spent_less (length code.instrs) s.ticks t less in
+    ≤ spent (length code.instrs) t = spent_less (length code.instrs) s.ticks t less in
     within_entered code m entry frames s (omega (arith, paid, enough))
 within_row_called e code m t (OfLibrary row) called entry frames s less enough =
     let under : spent (length code.instrs) s.ticks ≤ spent (length code.instrs) t =
-        spent_le (length code.instrs) s.ticks t (omega (arith, less)) in
+    spent_le (length code.instrs) s.ticks t (omega (arith, less)) in
     within_replied code m s.ticks
     (begun e (record { row = row; pos = entry.pos }) (args_of entry.arguments called.kinds) s) frames
     (λ v s1. returned e code (row_left v) v frames s1)
     (serves_begun e (record { row = row; pos = entry.pos }) (args_of entry.arguments called.kinds) s.ticks s
-        (omega arith)) (omega (arith, under, enough))
+    (omega arith)) (omega (arith, under, enough))
     (λ v s1 le. let lower : spent (length code.instrs) s1.ticks ≤ spent (length code.instrs) s.ticks =
-        spent_le (length code.instrs) s1.ticks s.ticks le in
-        within_returned e code m (row_left v) v frames s1 (omega (arith, lower, under, enough)))
+    spent_le (length code.instrs) s1.ticks s.ticks le in
+    within_returned e code m (row_left v) v frames s1 (omega (arith, lower, under, enough)))
 
 within_compatible : (b : Bool) (e : Environment) (code : Contents) (m : ℕ) (f : Function) (called : CodeCalled)
     (entry : Entry) (frames : List Frame) (s : State) → spent (length code.instrs) s.ticks + weights code frames ≤ m
