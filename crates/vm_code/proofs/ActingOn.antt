@@ -75,10 +75,10 @@ use Rattle.vm_code.proofs.Acting.{at_kills, at_seals, at_pools, at_uses, at_call
 
 -- ---- a choice leads to one of its places
 
-none_is_some : {A : Type 0} (a : A) → None ≡ Some a → ⊥
+pub none_is_some : {A : Type 0} (a : A) → None ≡ Some a → ⊥
 none_is_some a same = cc
 
-later : {A : Type 0} (y : A) (xs : List A) (x : A) → Contains xs x → Contains (y ∷ xs) x
+pub later : {A : Type 0} (y : A) (xs : List A) (x : A) → Contains xs x → Contains (y ∷ xs) x
 later y xs x found = (suc found.0, omega (arith, found.1), found.2)
 
 default_found : (o : Option (Instr × Pos)) (to : ℕ) → default_place o ≡ Some to → Contains (default_places o) to

@@ -10,3 +10,4 @@ mod AccessTicks
 mod Weights
 mod Acting
 mod ActingOn
+mod Falling
