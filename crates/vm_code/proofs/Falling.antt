@@ -27,11 +27,11 @@ use Rattle.vm_code.proofs.ActingOn.{within_act, later, none_is_some}
 
 -- ---- what soundness says of the places where an instruction leads
 
-and_left : (a b : Bool) → (a && b) ≡ true → a ≡ true
+pub and_left : (a b : Bool) → (a && b) ≡ true → a ≡ true
 and_left true b both = refl
 and_left false b both = both
 
-and_right : (a b : Bool) → (a && b) ≡ true → b ≡ true
+pub and_right : (a b : Bool) → (a && b) ≡ true → b ≡ true
 and_right true b both = both
 and_right false b both = cc
 
@@ -58,7 +58,7 @@ leads_rest : (code : Contents) (stretch : Stretch) (at to : ℕ) → leads code 
 leads_rest code stretch at to is = lead_rest (is_place code stretch to) (nat_lt at to)
     (is_tick (slice_get code.instrs to)) (length code.instrs) at to is (ltb-true at to)
 
-bool_true : (b : Bool) → (b ≡ false → ⊥) → b ≡ true
+pub bool_true : (b : Bool) → (b ≡ false → ⊥) → b ≡ true
 bool_true true never = refl
 bool_true false never = absurd (never refl)
 

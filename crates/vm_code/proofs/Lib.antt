@@ -11,3 +11,4 @@ mod Weights
 mod Acting
 mod ActingOn
 mod Falling
+mod Counted

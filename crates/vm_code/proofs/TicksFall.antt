@@ -73,7 +73,7 @@ leaves_within_if : (b : Bool) (t : ℕ) (s : State) → s.ticks ≤ t → Leaves
 leaves_within_if true t s le = le
 leaves_within_if false t s le = le
 
-leaves_within : (size t : ℕ) (s : State) → s.ticks ≤ t → Leaves t (within size s)
+pub leaves_within : (size t : ℕ) (s : State) → s.ticks ≤ t → Leaves t (within size s)
 leaves_within size t s le = leaves_within_if (fits s.world.store 0 size) t s le
 
 leaves_reached_if : (o : Option Case) (attempt : Attempt) (pos : Pos) (t : ℕ) (s : State) → s.ticks ≤ t
