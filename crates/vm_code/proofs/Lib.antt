@@ -12,3 +12,4 @@ mod Acting
 mod ActingOn
 mod Falling
 mod Counted
+mod ValidExamples
