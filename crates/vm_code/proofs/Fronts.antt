@@ -17,7 +17,7 @@ use Rattle.vm_code.specs.Valid.{IsUnsound, CannotStart, LacksOperand, LacksObjec
 use Rattle.vm_code.specs.Valid.{OwnFit, IsValid}
 
 -- an option with a value has one alone
-some_alone : {A : Type 0} (a b : A) → Some a ≡ Some b → a ≡ b
+pub some_alone : {A : Type 0} (a b : A) → Some a ≡ Some b → a ≡ b
 some_alone a b same = ap (λ o. unwrap_or o a) same
 
 no_some : {A : Type 0} (a : A) (o : Option A) → o ≡ None → o ≡ Some a → ⊥
@@ -71,18 +71,18 @@ made_covers : (slot bytes : ℕ) (made slots : Slots) → Covers made slots
     → Covers (slot_made slot bytes made) (slot_made slot bytes slots)
 made_covers slot bytes made slots covers t size is = at_slot (t == slot) is
   where
-  at_slot : (b : Bool) → (if b then Some bytes else made t) ≡ Some size
-      → (if b then Some bytes else slots t) ≡ Some size
-  at_slot true h = h
-  at_slot false h = covers t size h
+    at_slot : (b : Bool) → (if b then Some bytes else made t) ≡ Some size
+        → (if b then Some bytes else slots t) ≡ Some size
+    at_slot true h = h
+    at_slot false h = covers t size h
 
 killed_covers : (slot : ℕ) (made slots : Slots) → Covers made slots
     → Covers (slot_killed slot made) (slot_killed slot slots)
 killed_covers slot made slots covers t size is = at_slot (t == slot) is
   where
-  at_slot : (b : Bool) → (if b then None else made t) ≡ Some size → (if b then None else slots t) ≡ Some size
-  at_slot true h = h
-  at_slot false h = covers t size h
+    at_slot : (b : Bool) → (if b then None else made t) ≡ Some size → (if b then None else slots t) ≡ Some size
+    at_slot true h = h
+    at_slot false h = covers t size h
 
 after_covers : (instr : Instr) (made slots : Slots) → Covers made slots
     → Covers (slots_after instr made) (slots_after instr slots)
@@ -98,9 +98,9 @@ module _ (code : Contents) (f : CodeFunction) (fronts : Fronts) (are : AreFronts
   on_step at kinds slots to kinds_there slots_there a st =
       let fit : Fits code f fronts at st.instr a.front = are.fits at st.instr a.front a.here (st.pos, st.stands) in
       let onward : (there : Front) × (fronts to ≡ Some there) × (there.kinds ≡ fit.left)
-          × Covers there.made (slots_after st.instr a.front.made) = fit.onward to st.next in
+      × Covers there.made (slots_after st.instr a.front.made) = fit.onward to st.next in
       let same_left : Some fit.left ≡ Some kinds_there =
-          sym fit.operands ∙ ap (kinds_after code f.form st.instr) a.same ∙ st.operands in
+      sym fit.operands ∙ ap (kinds_after code f.form st.instr) a.same ∙ st.operands in
       record {
         front = onward.0;
         here = onward.1;
@@ -143,13 +143,13 @@ module _ (code : Contents) (f : CodeFunction) (fronts : Fronts) (are : AreFronts
       no_some fit.slots.0 (slots slot) none (a.covers slot fit.slots.0 fit.slots.1)
   slots_lack_none at kinds slots instr a stands (NothingToSeal slot from len none) =
       let fit : Fits code f fronts at (i.Seal slot from len) a.front =
-          are.fits at (i.Seal slot from len) a.front a.here stands in
+      are.fits at (i.Seal slot from len) a.front a.here stands in
       no_some fit.slots.0 (slots slot) none (a.covers slot fit.slots.0 fit.slots.1)
   slots_lack_none at kinds slots instr a stands (SealsBeyond slot from len size is beyond) =
       let fit : Fits code f fronts at (i.Seal slot from len) a.front =
-          are.fits at (i.Seal slot from len) a.front a.here stands in
+      are.fits at (i.Seal slot from len) a.front a.here stands in
       let same : fit.slots.0 ≡ size =
-          some_alone fit.slots.0 size (sym (a.covers slot fit.slots.0 fit.slots.1) ∙ is) in
+      some_alone fit.slots.0 size (sym (a.covers slot fit.slots.0 fit.slots.1) ∙ is) in
       omega (arith, fit.slots.2, same, beyond)
 
   kills_some : (at : ℕ) (kinds : Kinds) (slots : Slots) (slot : ℕ) → AtFront fronts at kinds slots
@@ -162,9 +162,9 @@ module _ (code : Contents) (f : CodeFunction) (fronts : Fronts) (are : AreFronts
       → AtFront fronts at others more → StandsAt code at (i.Seal slot from len) → slots slot ≡ more slot
   same_size at kinds others slots more slot from len a b stands =
       let fit : Fits code f fronts at (i.Seal slot from len) a.front =
-          are.fits at (i.Seal slot from len) a.front a.here stands in
+      are.fits at (i.Seal slot from len) a.front a.here stands in
       let there : Fits code f fronts at (i.Seal slot from len) b.front =
-          are.fits at (i.Seal slot from len) b.front b.here stands in
+      are.fits at (i.Seal slot from len) b.front b.here stands in
       let same : a.front ≡ b.front = some_alone a.front b.front (sym a.here ∙ b.here) in
       a.covers slot fit.slots.0 fit.slots.1 ∙ sym fit.slots.1 ∙ ap (λ (x : Front). x.made slot) same
       ∙ there.slots.1 ∙ sym (b.covers slot there.slots.0 there.slots.1)

@@ -4,3 +4,12 @@ mod ObjectRuns
 mod CallRuns
 mod LibraryRuns
 pub mod Fronts
+mod TicksFall
+mod ServedTicks
+mod AccessTicks
+mod Weights
+mod Acting
+mod ActingOn
+mod Falling
+mod Counted
+mod ValidExamples

@@ -12,3 +12,4 @@ pub mod OperandKinds
 pub mod Sound
 pub mod Ways
 pub mod Valid
+pub mod Bound

@@ -6,6 +6,7 @@
 
 pub mod code;
 pub mod instr;
+mod law;
 pub mod parts;
 pub mod reading;
 pub mod sequence;
@@ -14,6 +15,7 @@ pub mod valid_code;
 pub use c_core::Form;
 pub use code::Code;
 pub use instr::Instr;
+pub use law::bound_law;
 pub use parts::{CodeCalled, CodeFunction, CodeObject, Parameter};
 pub use run_defs::Seal;
 pub use sequence::Sequence;

@@ -1,0 +1,199 @@
+-- What an instruction leaves of a run: the rest behind the places where it leads.
+use Rattle.std.proofs.Common.{◌≡◌, ℕ, zero, suc, ◌+◌, ◌<◌, ◌≤◌, Bool, true, false, ℤ, List, [], ◌∷◌, length, replicate}
+use Rattle.std.proofs.Common.{Option, Some, None, Contains, refl, sym, subst, arith, if◌then◌else◌}
+use Rattle.std.specs.Prelude.{◌-ℤ◌, nat_le}
+use Rattle.std.specs.List.{slice_get}
+use Rattle.acc_num.specs.Operations.{is_zero, converted_to}
+use Rattle.critical_table.specs.declared.pos.Pos.{Pos}
+use Rattle.object_store.specs.declared.mark.Mark.TheVariants.{Const}
+use Rattle.object_store.specs.declared.pointer.Pointer.{Pointer}
+use Rattle.lib_defs.specs.declared.value.Value.{Value}
+use Rattle.lib_defs.specs.declared.value.Value.TheVariants.{Num, Ptr, Nothing}
+use Rattle.lib_defs.specs.Columns.{is_null}
+use Rattle.lib_defs.specs.Reply.{null}
+use Rattle.run_defs.specs.State.{State, sealed, died}
+use Rattle.run_defs.specs.Evaluation.{Evaluation, Gives, Stops, bind, ticked, stored, automatic_made}
+use Rattle.run_defs.specs.Functions.{function_number}
+use Rattle.run_defs.specs.Loads.{found}
+use Rattle.c_core.specs.declared.form.Form.{Form}
+use Rattle.c_core.specs.declared.form.Form.TheVariants as form
+use Rattle.c_core.specs.declared.form.Scalar.{Scalar}
+use Rattle.c_core.specs.declared.form.Scalar.TheVariants as scalar
+use Rattle.c_core.specs.Operations.{operator_outcome, negation, complement, compares}
+use Rattle.vm_code.specs.declared.instr.Instr.{Instr}
+use Rattle.vm_code.specs.declared.instr.Instr.TheVariants as i
+use Rattle.vm_code.specs.declared.parts.CodeCalled.{CodeCalled}
+use Rattle.vm_code.specs.Accesses.{loaded, copied}
+use Rattle.vm_code.specs.Pointers.{moved, difference, ordered, same_pointer, member_place, array_pointer}
+use Rattle.vm_code.specs.Operators.{computed, told, told_if_found, pointer_moved, assigned}
+use Rattle.vm_code.specs.Contents.{Contents}
+use Rattle.vm_code.specs.Slots.{Held, place_of, held_in, without}
+use Rattle.vm_code.specs.Frames.{Activation, Frame, Active, Place, Goes, Stuck, after}
+use Rattle.vm_code.specs.Calling.{Entry, called_through}
+use Rattle.vm_code.specs.Machine.{Context, on_top, on_two, on_number, on_numbers, on_pointer, on_pointers, on_scalar}
+use Rattle.vm_code.specs.Machine.{on_form, on_operands, goes_to, next, push, gives, does, on_held, on_slot, makes, kills}
+use Rattle.vm_code.specs.Machine.{seals, reaches, text_stored, pools, default_place, pair_place, case_place, to_case, uses}
+use Rattle.vm_code.specs.Machine.{on_result, calls, act}
+use Rattle.vm_code.specs.Sound.{default_places, pair_places, case_places, next_places}
+use Rattle.vm_code.proofs.TicksFall.{Leaves, leaves_bind, leaves_ticked, leaves_stored, leaves_made, died_ticks, sealed_ticks}
+use Rattle.vm_code.proofs.AccessTicks.{leaves_found, leaves_computed, leaves_told, leaves_moved, leaves_counted}
+use Rattle.vm_code.proofs.AccessTicks.{leaves_loaded, leaves_assigned, leaves_copied, leaves_reaches, leaves_text}
+use Rattle.vm_code.proofs.Weights.{spent, spent_le, rest_at, weights, Within, within_after, within_leaves, within_called}
+
+-- ---- operands
+
+module _ (code : Contents) (most : ℕ) where
+  pub in_top : (vs : List Value) (go : Value → List Value → Place)
+      → ((v : Value) (below : List Value) → Within code most (go v below)) → Within code most (on_top vs go)
+  in_top [] go all = tt
+  in_top (v ∷ below) go all = all v below
+
+  pub in_two : (vs : List Value) (go : Value → Value → List Value → Place)
+      → ((v w : Value) (below : List Value) → Within code most (go v w below)) → Within code most (on_two vs go)
+  in_two [] go all = tt
+  in_two (w ∷ []) go all = tt
+  in_two (w ∷ v ∷ below) go all = all v w below
+
+  pub in_number : (vs : List Value) (go : ℤ → List Value → Place)
+      → ((n : ℤ) (below : List Value) → Within code most (go n below)) → Within code most (on_number vs go)
+  in_number [] go all = tt
+  in_number (Num n ∷ below) go all = all n below
+  in_number (Ptr p ∷ below) go all = tt
+  in_number (Nothing ∷ below) go all = tt
+
+  pub in_numbers : (vs : List Value) (go : ℤ → ℤ → List Value → Place)
+      → ((a b : ℤ) (below : List Value) → Within code most (go a b below)) → Within code most (on_numbers vs go)
+  in_numbers vs go all = in_number vs (λ b below. on_number below (λ a rest. go a b rest))
+      (λ b below. in_number below (λ a rest. go a b rest) (λ a rest. all a b rest))
+
+  pub in_pointer : (vs : List Value) (go : Pointer → List Value → Place)
+      → ((p : Pointer) (below : List Value) → Within code most (go p below)) → Within code most (on_pointer vs go)
+  in_pointer [] go all = tt
+  in_pointer (Num n ∷ below) go all = tt
+  in_pointer (Ptr p ∷ below) go all = all p below
+  in_pointer (Nothing ∷ below) go all = tt
+
+  pub in_pointers : (vs : List Value) (go : Pointer → Pointer → List Value → Place)
+      → ((p q : Pointer) (below : List Value) → Within code most (go p q below)) → Within code most (on_pointers vs go)
+  in_pointers vs go all = in_pointer vs (λ q below. on_pointer below (λ p rest. go p q rest))
+      (λ q below. in_pointer below (λ p rest. go p q rest) (λ p rest. all p q rest))
+
+  pub in_scalar : (kind : Scalar) (vs : List Value) (go : Value → List Value → Place)
+      → ((v : Value) (below : List Value) → Within code most (go v below)) → Within code most (on_scalar kind vs go)
+  in_scalar (scalar.Number kind) vs go all =
+      in_number vs (λ n below. go (Num n) below) (λ n below. all (Num n) below)
+  in_scalar scalar.Pointer vs go all = in_pointer vs (λ p below. go (Ptr p) below) (λ p below. all (Ptr p) below)
+
+  pub in_form : (f : Form) (vs : List Value) (go : Value → List Value → Place)
+      → ((v : Value) (below : List Value) → Within code most (go v below)) → Within code most (on_form f vs go)
+  in_form (form.Number kind) vs go all =
+      in_number vs (λ n below. go (Num n) below) (λ n below. all (Num n) below)
+  in_form form.Pointer vs go all = in_pointer vs (λ p below. go (Ptr p) below) (λ p below. all (Ptr p) below)
+  in_form form.Place vs go all = in_pointer vs (λ p below. go (Ptr p) below) (λ p below. all (Ptr p) below)
+  in_form form.Nothing vs go all = tt
+
+  in_operands : (n : ℕ) (vs front : List Value) (go : List Value → List Value → Place)
+      → ((taken below : List Value) → Within code most (go taken below)) → Within code most (on_operands n vs front go)
+  in_operands zero vs front go all = all front vs
+  in_operands (suc n) [] front go all = tt
+  in_operands (suc n) (v ∷ below) front go all = in_operands n below (v ∷ front) go all
+
+  in_result : (f : Form) (vs : List Value) (go : Pointer → List Value → Place)
+      → ((p : Pointer) (below : List Value) → Within code most (go p below)) → Within code most (on_result f vs go)
+  in_result (form.Number kind) vs go all = all null vs
+  in_result form.Pointer vs go all = all null vs
+  in_result form.Place vs go all = in_pointer vs go all
+  in_result form.Nothing vs go all = all null vs
+
+  pub in_held : (o : Option Held) (go : Held → Place) → ((held : Held) → Within code most (go held))
+      → Within code most (on_held o go)
+  in_held None go all = tt
+  in_held (Some held) go all = all held
+
+-- ---- an instruction in a context: so much is left at most behind each place where it leads
+
+pub first_of : {A : Type 0} (x : A) (xs : List A) → Contains (x ∷ xs) x
+first_of x xs = (0, omega arith, refl)
+
+pub second_of : {A : Type 0} (x y : A) (xs : List A) → Contains (x ∷ y ∷ xs) y
+second_of x y xs = (1, omega arith, refl)
+
+module _ (c : Context) (most rest : ℕ)
+    (enough : spent (length c.code.instrs) c.state.ticks + rest + weights c.code c.rest ≤ most) where
+  pub at_place : (at : ℕ) (operands : List Value) (held : List Held) (s : State) → s.ticks ≤ c.state.ticks
+      → rest_at c.code at ≤ rest → Within c.code most (goes_to c at operands held s)
+  at_place at operands held s le small =
+      let less : spent (length c.code.instrs) s.ticks ≤ spent (length c.code.instrs) c.state.ticks =
+      spent_le (length c.code.instrs) s.ticks c.state.ticks le in omega (arith, less, small, enough)
+
+  module _ (small : rest_at c.code (c.frame.at + 1) ≤ rest) where
+    pub at_next : (operands : List Value) (s : State) → s.ticks ≤ c.state.ticks → Within c.code most (next c operands s)
+    at_next operands s le = at_place (c.frame.at + 1) operands c.frame.held s le small
+
+    pub at_push : (v : Value) → Within c.code most (push c v)
+    at_push v = at_next (v ∷ c.frame.operands) c.state (omega arith)
+
+    pub at_gives : (below : List Value) (x : Evaluation Value) → Leaves c.state.ticks x
+        → Within c.code most (gives c below x)
+    at_gives below x le = within_after c.code most c.state.ticks x (λ v s. next c (v ∷ below) s) le
+        (omega (arith, enough)) (λ v s le1. at_next (v ∷ below) s le1)
+
+    pub at_does : (below : List Value) (x : Evaluation (Unit {0})) → Leaves c.state.ticks x
+        → Within c.code most (does c below x)
+    at_does below x le = within_after c.code most c.state.ticks x (λ u s. next c below s) le
+        (omega (arith, enough)) (λ u s le1. at_next below s le1)
+
+    pub at_makes : (slot bytes : ℕ) (x : Evaluation Pointer) → Leaves c.state.ticks x
+        → Within c.code most (makes c slot bytes x)
+    at_makes slot bytes x le = within_after c.code most c.state.ticks x
+        (λ place s. goes_to c (c.frame.at + 1) c.frame.operands
+        (record { slot = slot; number = place.object; size = bytes } ∷ c.frame.held) s) le (omega (arith, enough))
+        (λ place s le1. at_place (c.frame.at + 1) c.frame.operands
+        (record { slot = slot; number = place.object; size = bytes } ∷ c.frame.held) s le1 small)
+
+    pub at_kills : (slot : ℕ) (o : Option Held) → Within c.code most (kills c slot o)
+    at_kills slot None = at_next c.frame.operands c.state (omega arith)
+    at_kills slot (Some held) = let P : ℕ → Type 0 = λ n. n ≤ c.state.ticks in
+        at_place (c.frame.at + 1) c.frame.operands (without slot c.frame.held) (died held.number c.state)
+        (subst P (sym (died_ticks held.number c.state)) (omega arith)) small
+
+    at_seals_if : (b : Bool) (s : State) → s.ticks ≤ c.state.ticks
+        → Within c.code most (if b then next c c.frame.operands s else Stuck)
+    at_seals_if true s le = at_next c.frame.operands s le
+    at_seals_if false s le = tt
+
+    pub at_seals : (at len : ℕ) (held : Held) → Within c.code most (seals c at len held)
+    at_seals at len held = let P : ℕ → Type 0 = λ n. n ≤ c.state.ticks in
+        at_seals_if (nat_le (at + len) held.size)
+        (sealed held.number (record { at = at; len = len; mark = Const }) c.state)
+        (subst P (sym (sealed_ticks held.number (record { at = at; len = len; mark = Const }) c.state)) (omega arith))
+
+    pub at_pools : (o : Option (List ℕ)) (p : Pointer) (below : List Value) → Within c.code most (pools c o p below)
+    at_pools None p below = tt
+    at_pools (Some text) p below = at_does below (text_stored p text c.pos c.state)
+        (leaves_text p text c.pos c.state.ticks c.state (omega arith))
+
+    pub at_uses : (b : Bool) → Within c.code most (uses c b)
+    at_uses true = at_next c.frame.operands c.state (omega arith)
+    at_uses false = omega (arith, enough)
+
+    pub at_calls : (count : ℕ) (o : Option CodeCalled) → Within c.code most (calls c count o)
+    at_calls count None = tt
+    at_calls count (Some called) = in_result c.code most called.form c.frame.operands
+        (λ result below. on_operands count below [] (λ arguments below1. on_pointer below1 (λ p below2.
+        called_through c.environment c.code p called
+        (record { function = function_number p; arguments = arguments; result = result; pos = c.pos })
+        (Active (record (c.frame) { at = c.frame.at + 1; operands = below2 }) ∷ c.rest) c.state)))
+        (λ result below. in_operands c.code most count below []
+        (λ arguments below1. on_pointer below1 (λ p below2.
+        called_through c.environment c.code p called
+        (record { function = function_number p; arguments = arguments; result = result; pos = c.pos })
+        (Active (record (c.frame) { at = c.frame.at + 1; operands = below2 }) ∷ c.rest) c.state))
+        (λ arguments below1. in_pointer c.code most below1
+        (λ p below2. called_through c.environment c.code p called
+        (record { function = function_number p; arguments = arguments; result = result; pos = c.pos })
+        (Active (record (c.frame) { at = c.frame.at + 1; operands = below2 }) ∷ c.rest) c.state)
+        (λ p below2. within_called c.environment c.code most p called
+        (record { function = function_number p; arguments = arguments; result = result; pos = c.pos })
+        (Active (record (c.frame) { at = c.frame.at + 1; operands = below2 }) ∷ c.rest) c.state
+        (omega (arith, small, enough)))))

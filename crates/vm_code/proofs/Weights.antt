@@ -1,0 +1,195 @@
+-- What is left of a run: two passes of the code for each tick, and the rest of each function that runs.
+use Rattle.std.proofs.Common.{◌≡◌, ℕ, zero, suc, ◌+◌, ◌-◌, ◌<◌, ◌≤◌, Bool, true, false, List, [], ◌∷◌, length, Option, Some}
+use Rattle.std.proofs.Common.{None, refl, sym, subst, arith, if◌then◌else◌}
+use Rattle.std.specs.List.{slice_get}
+use Rattle.critical_table.specs.declared.pos.Pos.{Pos}
+use Rattle.lib_defs.specs.declared.value.Value.{Value}
+use Rattle.run_defs.specs.State.{State, call_left}
+use Rattle.run_defs.specs.Evaluation.{Evaluation, Gives, Stops, ticked_at, ticked, call_entered}
+use Rattle.run_defs.specs.Functions.{Function, OfLibrary, OfUnit, Environment, function_at}
+use Rattle.run_defs.specs.Served.{Served, Answers, Wants, begun, continued}
+use Rattle.c_core.specs.declared.form.Form.{Form}
+use Rattle.object_store.specs.declared.pointer.Pointer.{Pointer}
+use Rattle.vm_code.specs.declared.instr.Instr.{Instr}
+use Rattle.vm_code.specs.declared.parts.CodeFunction.{CodeFunction}
+use Rattle.vm_code.specs.declared.parts.CodeCalled.{CodeCalled}
+use Rattle.vm_code.specs.Contents.{Contents}
+use Rattle.vm_code.specs.Contents as code_parts
+use Rattle.vm_code.specs.CodeFunctions.{calls_function}
+use Rattle.vm_code.specs.Slots.{Held, numbers, all_died}
+use Rattle.vm_code.specs.Frames.{Activation, Frame, Active, Waiting, Place, Goes, Ends, Stuck, after, stops}
+use Rattle.vm_code.specs.Calling.{fit_parameters, parameters_made, Entry, activation, entered_if, entered_at, entered}
+use Rattle.vm_code.specs.Calling.{left_by, row_left, replied, returned, leaves, args_of, row_called, compatible_if}
+use Rattle.vm_code.specs.Calling.{called_at, called_through}
+use Rattle.vm_code.specs.Sound.{is_tick}
+use Rattle.vm_code.proofs.TicksFall.{all_died_ticks, Leaves, leaves_entered}
+use Rattle.vm_code.proofs.ServedTicks.{Serves, serves_begun, serves_continued}
+use Rattle.vm_code.proofs.AccessTicks.{leaves_parameters}
+
+-- two passes of u instructions for each tick
+abbrev pub spent : ℕ → ℕ → ℕ
+spent u zero = 0
+spent u (suc t) = spent u t + (u + u)
+
+pub spent_le : (u a b : ℕ) → a ≤ b → spent u a ≤ spent u b
+spent_le u zero b le = omega arith
+spent_le u (suc a) zero le = absurd (let none : ⊥ = omega (arith, le) in none)
+spent_le u (suc a) (suc b) le =
+    let below : spent u a ≤ spent u b = spent_le u a b (omega (arith, le)) in omega (arith, below)
+
+pub spent_less : (u a b : ℕ) → a < b → spent u a + (u + u) ≤ spent u b
+spent_less u a zero less = absurd (let none : ⊥ = omega (arith, less) in none)
+spent_less u a (suc b) less =
+    let below : spent u a ≤ spent u b = spent_le u a b (omega (arith, less)) in omega (arith, below)
+
+-- what is left of a function from a place on: none at a tick, which pays for itself
+abbrev pub rest_if : Bool → ℕ → ℕ → ℕ
+rest_if true u at = 0
+rest_if false u at = u - at
+
+abbrev pub rest_at : Contents → ℕ → ℕ
+rest_at code at = rest_if (is_tick (slice_get code.instrs at)) (length code.instrs) at
+
+rest_if_le : (b : Bool) (u at : ℕ) → rest_if b u at ≤ u
+rest_if_le true u at = omega arith
+rest_if_le false u at = omega arith
+
+pub rest_le : (code : Contents) (at : ℕ) → rest_at code at ≤ length code.instrs
+rest_le code at = rest_if_le (is_tick (slice_get code.instrs at)) (length code.instrs) at
+
+abbrev pub weights : Contents → List Frame → ℕ
+weights code [] = 0
+weights code (Active a ∷ frames) = rest_at code a.at + weights code frames
+weights code (Waiting call ∷ frames) = weights code frames
+
+-- no more than m is left at a place
+abbrev pub Within : Contents → ℕ → Place → Type 0
+Within code m (Goes frames s) = spent (length code.instrs) s.ticks + weights code frames ≤ m
+Within code m (Ends outcome s) = spent (length code.instrs) s.ticks ≤ m
+Within code m Stuck = Unit {0}
+
+pub within_after : {A : Type 0} (code : Contents) (m t : ℕ) (x : Evaluation A) (next : A → State → Place)
+    → Leaves t x → spent (length code.instrs) t ≤ m
+    → ((value : A) (s : State) → s.ticks ≤ t → Within code m (next value s)) → Within code m (after x next)
+within_after code m t (Gives value s) next le enough go = go value s le
+within_after code m t (Stops outcome s) next le enough go =
+    let less : spent (length code.instrs) s.ticks ≤ spent (length code.instrs) t =
+    spent_le (length code.instrs) s.ticks t le in omega (arith, less, enough)
+
+-- behind a tick
+within_ticked : (code : Contents) (m n t : ℕ) (s : State) (next : State → Place) → s.ticks ≤ t → n ≤ t
+    → spent (length code.instrs) t ≤ m → ((s1 : State) → s1.ticks < t → Within code m (next s1))
+    → Within code m (after (ticked_at n s) (λ u s1. next s1))
+within_ticked code m zero t s next le less enough go =
+    let under : spent (length code.instrs) s.ticks ≤ spent (length code.instrs) t =
+    spent_le (length code.instrs) s.ticks t le in omega (arith, under, enough)
+within_ticked code m (suc n) t s next le less enough go = go (record s { ticks = n }) (omega (arith, less))
+
+-- ---- calls
+
+-- a function that is entered has at most a pass of the code before it
+within_entered_if : (b : Bool) (code : Contents) (m : ℕ) (f : CodeFunction) (entry : Entry) (frames : List Frame)
+    (s : State) → spent (length code.instrs) s.ticks + length code.instrs + weights code frames ≤ m
+    → Within code m (entered_if b f entry frames s)
+within_entered_if false code m f entry frames s enough = tt
+within_entered_if true code m f entry frames s enough =
+    within_after code m s.ticks (call_entered s)
+    (λ u s1. after (parameters_made 0 f.parameters entry.arguments [] entry.pos s1) (λ held s2.
+    Goes (Active (activation entry f held) ∷ frames) s2))
+    (leaves_entered s.ticks s (omega arith)) (omega (arith, enough))
+    (λ u s1 le1. within_after code m s.ticks (parameters_made 0 f.parameters entry.arguments [] entry.pos s1)
+    (λ held s2. Goes (Active (activation entry f held) ∷ frames) s2)
+    (leaves_parameters 0 f.parameters entry.arguments [] entry.pos s.ticks s1 le1) (omega (arith, enough))
+    (λ held s2 le2.
+    let less : spent (length code.instrs) s2.ticks ≤ spent (length code.instrs) s.ticks =
+    spent_le (length code.instrs) s2.ticks s.ticks le2 in
+    let rest : rest_at code f.start ≤ length code.instrs = rest_le code f.start in
+    omega (arith, less, rest, enough)))
+
+within_entered_at : (o : Option CodeFunction) (code : Contents) (m : ℕ) (entry : Entry) (frames : List Frame)
+    (s : State) → spent (length code.instrs) s.ticks + length code.instrs + weights code frames ≤ m
+    → Within code m (entered_at o entry frames s)
+within_entered_at None code m entry frames s enough = tt
+within_entered_at (Some f) code m entry frames s enough =
+    within_entered_if (fit_parameters f.parameters entry.arguments) code m f entry frames s enough
+
+pub within_entered : (code : Contents) (m : ℕ) (entry : Entry) (frames : List Frame) (s : State)
+    → spent (length code.instrs) s.ticks + length code.instrs + weights code frames ≤ m
+    → Within code m (entered code entry frames s)
+within_entered code m entry frames s enough =
+    within_entered_at (code_parts.function_at code.functions entry.function) code m entry frames s enough
+
+-- a library call that has these ticks before it, above these frames
+within_replied : (code : Contents) (m t : ℕ) (x : Evaluation Served) (frames : List Frame)
+    (next : Value → State → Place) → Serves t x → spent (length code.instrs) t + weights code frames ≤ m
+    → ((v : Value) (s : State) → s.ticks ≤ t → Within code m (next v s)) → Within code m (replied code x frames next)
+within_replied code m t (Stops outcome s) frames next le enough go =
+    let less : spent (length code.instrs) s.ticks ≤ spent (length code.instrs) t =
+    spent_le (length code.instrs) s.ticks t le in omega (arith, less, enough)
+within_replied code m t (Gives (Answers v) s) frames next le enough go = go v s le
+within_replied code m t (Gives (Wants function arguments call) s) frames next less enough go =
+    let paid : spent (length code.instrs) s.ticks + (length code.instrs + length code.instrs)
+    ≤ spent (length code.instrs) t = spent_less (length code.instrs) s.ticks t less in
+    within_entered code m _ (Waiting call ∷ frames) s (omega (arith, paid, enough))
+
+pub within_returned : (e : Environment) (code : Contents) (m : ℕ) (left : List Value) (v : Value)
+    (frames : List Frame) (s : State) → spent (length code.instrs) s.ticks + weights code frames ≤ m
+    → Within code m (returned e code left v frames s)
+within_returned e code m left v [] s enough = omega (arith, enough)
+within_returned e code m left v (Active a ∷ frames) s enough = enough
+within_returned e code m left v (Waiting call ∷ frames) s enough =
+    within_replied code m s.ticks (continued e call v s) frames (λ w s1. returned e code (row_left w) w frames s1)
+    (serves_continued e call v s.ticks s (omega arith)) enough
+    (λ w s1 le. let less : spent (length code.instrs) s1.ticks ≤ spent (length code.instrs) s.ticks =
+    spent_le (length code.instrs) s1.ticks s.ticks le in
+    within_returned e code m (row_left w) w frames s1 (omega (arith, less, enough)))
+
+pub within_leaves : (e : Environment) (code : Contents) (m : ℕ) (gives : Form) (a : Activation) (v : Value)
+    (frames : List Frame) (s : State) → spent (length code.instrs) s.ticks + weights code frames ≤ m
+    → Within code m (leaves e code gives a v frames s)
+within_leaves e code m gives a v frames s enough =
+    let P : ℕ → Type 0 = λ n. spent (length code.instrs) n + weights code frames ≤ m in
+    within_returned e code m (left_by gives a.result v) v frames (call_left (all_died (numbers a.held) s))
+    (subst P (sym (all_died_ticks (numbers a.held) s)) enough)
+
+within_row_called : (e : Environment) (code : Contents) (m t : ℕ) (f : Function) (called : CodeCalled) (entry : Entry)
+    (frames : List Frame) (s : State) → s.ticks < t → spent (length code.instrs) t + weights code frames ≤ m
+    → Within code m (row_called e code f called entry frames s)
+within_row_called e code m t (OfUnit name handles compares) called entry frames s less enough =
+    let paid : spent (length code.instrs) s.ticks + (length code.instrs + length code.instrs)
+    ≤ spent (length code.instrs) t = spent_less (length code.instrs) s.ticks t less in
+    within_entered code m entry frames s (omega (arith, paid, enough))
+within_row_called e code m t (OfLibrary row) called entry frames s less enough =
+    let under : spent (length code.instrs) s.ticks ≤ spent (length code.instrs) t =
+    spent_le (length code.instrs) s.ticks t (omega (arith, less)) in
+    within_replied code m s.ticks
+    (begun e (record { row = row; pos = entry.pos }) (args_of entry.arguments called.kinds) s) frames
+    (λ v s1. returned e code (row_left v) v frames s1)
+    (serves_begun e (record { row = row; pos = entry.pos }) (args_of entry.arguments called.kinds) s.ticks s
+    (omega arith)) (omega (arith, under, enough))
+    (λ v s1 le. let lower : spent (length code.instrs) s1.ticks ≤ spent (length code.instrs) s.ticks =
+    spent_le (length code.instrs) s1.ticks s.ticks le in
+    within_returned e code m (row_left v) v frames s1 (omega (arith, lower, under, enough)))
+
+within_compatible : (b : Bool) (e : Environment) (code : Contents) (m : ℕ) (f : Function) (called : CodeCalled)
+    (entry : Entry) (frames : List Frame) (s : State) → spent (length code.instrs) s.ticks + weights code frames ≤ m
+    → Within code m (compatible_if b e code f called entry frames s)
+within_compatible false e code m f called entry frames s enough = omega (arith, enough)
+within_compatible true e code m f called entry frames s enough =
+    within_ticked code m s.ticks s.ticks s (λ s1. row_called e code f called entry frames s1) (omega arith)
+    (omega arith) (omega (arith, enough))
+    (λ s1 less. within_row_called e code m s.ticks f called entry frames s1 less enough)
+
+within_called_at : (o : Option Function) (e : Environment) (code : Contents) (m : ℕ) (p : Pointer)
+    (called : CodeCalled) (entry : Entry) (frames : List Frame) (s : State)
+    → spent (length code.instrs) s.ticks + weights code frames ≤ m
+    → Within code m (called_at o e code p called entry frames s)
+within_called_at None e code m p called entry frames s enough = omega (arith, enough)
+within_called_at (Some f) e code m p called entry frames s enough =
+    within_compatible (calls_function entry.function called) e code m f called entry frames s enough
+
+pub within_called : (e : Environment) (code : Contents) (m : ℕ) (p : Pointer) (called : CodeCalled) (entry : Entry)
+    (frames : List Frame) (s : State) → spent (length code.instrs) s.ticks + weights code frames ≤ m
+    → Within code m (called_through e code p called entry frames s)
+within_called e code m p called entry frames s enough =
+    within_called_at (function_at e p) e code m p called entry frames s enough
