@@ -7,7 +7,6 @@ use Rattle.object_store.specs.declared.class.Class.TheVariants.{Static as Static
 use Rattle.object_store.specs.declared.pointer.Pointer.{Pointer}
 use Rattle.object_store.specs.Object.{number_of}
 use Rattle.lib_defs.specs.Reply.{null}
-use Rattle.lib_defs.specs.Handlers.{first_function}
 use Rattle.run_defs.specs.Evaluation.{whole}
 use Rattle.c_core.specs.declared.named.ObjectName.{ObjectName}
 use Rattle.c_core.specs.declared.named.ObjectName.TheVariants as object
@@ -44,7 +43,3 @@ number_from f token (first ∷ rest) = if same_place first.token token then f el
 abbrev pub function_number : List Definition → FunctionName → ℕ
 function_number functions (name.Unit token) = number_from 1 token functions
 function_number functions (name.Library row) = length functions + 1 + row
-
--- A pointer designates the function f where its object is the number of functions' pointers and f.
-abbrev pub function_pointer : ℕ → Pointer
-function_pointer f = record null { object = first_function + f }

@@ -19,7 +19,8 @@ use Rattle.c_core.specs.Tree as tree
 use Rattle.c_core.specs.TreeUnit.{Program}
 use Rattle.vm_code.specs.declared.instr.Instr.{Instr}
 use Rattle.vm_code.specs.declared.instr.Instr.TheVariants as i
-use Rattle.code_gen.specs.Designation.{static_place, function_number, function_pointer}
+use Rattle.vm_code.specs.CodeFunctions.{function_pointer}
+use Rattle.code_gen.specs.Designation.{static_place, function_number}
 use Rattle.code_gen.specs.Updates.{kind_of_reach}
 use Rattle.code_gen.specs.CalledTypes.{Through, through, type_number}
 

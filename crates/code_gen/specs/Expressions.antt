@@ -23,7 +23,8 @@ use Rattle.c_core.specs.TreeUnit.{Program}
 use Rattle.c_core.specs.Operations.{operator_outcome, negation, complement, compares}
 use Rattle.vm_code.specs.Slots.{Held}
 use Rattle.vm_code.specs.Pointers.{moved, difference, ordered, same_pointer, member_place, array_pointer}
-use Rattle.code_gen.specs.Designation.{object_place, function_number, function_pointer}
+use Rattle.vm_code.specs.CodeFunctions.{function_pointer}
+use Rattle.code_gen.specs.Designation.{object_place, function_number}
 use Rattle.vm_code.specs.Accesses.{number_in, pointer_in, loaded, copied}
 use Rattle.vm_code.specs.Operators.{computed, told, told_if_found, pointer_moved, assigned}
 use Rattle.code_gen.specs.Updates.{designated, updated}

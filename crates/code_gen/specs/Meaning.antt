@@ -3,6 +3,11 @@ use Rattle.std.specs.Prelude.{ℕ, ◌+◌, ◌-◌, List, [], ◌∷◌, map, O
 use Rattle.std.specs.Str.{bytes_eq}
 use Rattle.critical_table.specs.declared.pos.Pos.{Pos}
 use Rattle.object_store.specs.declared.pointer.Pointer.{Pointer}
+use Rattle.lib_defs.specs.declared.row.Row.{Row}
+use Rattle.lib_defs.specs.declared.row_name.RowName.TheVariants.{AbortHandlerS}
+use Rattle.lib_defs.specs.Names.{name_text}
+use Rattle.lib_defs.specs.RowNumbers.{row_named}
+use Rattle.std.specs.Option.{option_map_or}
 use Rattle.lib_defs.specs.declared.value.Value.{Value}
 use Rattle.lib_defs.specs.declared.value.Value.TheVariants.{Nothing}
 use Rattle.lib_defs.specs.RowTable.{modulo_byte}
@@ -18,7 +23,8 @@ use Rattle.run_defs.specs.Starts.{Budgets, StaticObject, start_state, statics_pl
 use Rattle.c_core.specs.declared.named.FunctionName.TheVariants.{Library as LibraryName}
 use Rattle.c_core.specs.TreeUnit.{Definition, Static, Program}
 use Rattle.c_core.specs.TypedUnit.{main_name}
-use Rattle.code_gen.specs.Designation.{function_number, function_pointer}
+use Rattle.vm_code.specs.CodeFunctions.{function_pointer}
+use Rattle.code_gen.specs.Designation.{function_number}
 use Rattle.vm_code.specs.Accesses.{number_in}
 use Rattle.code_gen.specs.Calls.{enter_below}
 use Rattle.code_gen.specs.StaticContents.{static_bytes, seal_of}
@@ -32,12 +38,11 @@ pub record Meaning : Type 0 where
 
 -- ---- the start
 
--- the handler that a run begins with (K.3.6.1.2)
-abbrev pub abort_row : ℕ
-abort_row = 21
-
+-- the handler that a run begins with: abort_handler_s (K.3.6.1.2)
 abbrev pub first_handler : List Definition → Pointer
-first_handler functions = function_pointer (function_number functions (LibraryName abort_row))
+first_handler functions =
+    option_map_or (λ (row : Row). function_pointer (function_number functions (LibraryName row.0)))
+    (row_named (name_text AbortHandlerS)) null
 
 abbrev pub static_object : Program → Static → StaticObject
 static_object program static =

@@ -13,7 +13,8 @@ use Rattle.c_core.specs.declared.static_object.Bounds.{Bounds}
 use Rattle.c_core.specs.declared.static_object.Address.{Address}
 use Rattle.c_core.specs.TreeUnit.{StaticValue, StaticNumber, StaticNull, StaticAddress, StaticFunction, StaticBytes}
 use Rattle.c_core.specs.TreeUnit.{StaticItem, Static, Program}
-use Rattle.code_gen.specs.Designation.{static_place, function_number, function_pointer}
+use Rattle.vm_code.specs.CodeFunctions.{function_pointer}
+use Rattle.code_gen.specs.Designation.{static_place, function_number}
 
 -- bytes in place of others, from one on
 abbrev pub with_item : ℕ → List ℕ → List ℕ → List ℕ
