@@ -1,4 +1,6 @@
 pub mod Ends
+pub mod KeptParts
+pub mod KeptExpressions
 pub mod Lengths
 pub mod StatementLengths
 pub mod Sizes
