@@ -2,6 +2,7 @@ pub mod Ends
 pub mod KeptParts
 pub mod KeptExpressions
 pub mod KeptStatements
+pub mod KeptCalls
 pub mod Lengths
 pub mod StatementLengths
 pub mod Sizes
