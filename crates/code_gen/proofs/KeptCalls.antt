@@ -1,7 +1,7 @@
 -- Calls and the functions of a unit keep what is kept, over every library that keeps its laws.
-use Rattle.std.proofs.Common.{◌≡◌, ℕ, zero, suc, Bool, true, false, cond, List, [], ◌∷◌, refl, sym, ap, Option, Some, None, ◌∙◌}
+use Rattle.std.proofs.Common.{◌≡◌, ℕ, zero, suc, Bool, true, false, cond, List, [], ◌∷◌, refl, ap, Option, Some, None, ◌∙◌}
 use Rattle.std.proofs.Common.{reverse}
-use Rattle.std.specs.Prelude.{nat_lt, unwrap_or, slice_get}
+use Rattle.std.specs.Prelude.{nat_lt, slice_get}
 use Rattle.std.specs.Option.{option_map}
 use Rattle.critical_table.specs.declared.case.Case.TheVariants.{L3, L6}
 use Rattle.critical_table.specs.declared.pos.Pos.{Pos}
@@ -19,12 +19,11 @@ use Rattle.lib_defs.specs.Handlers.{first_function}
 use Rattle.lib_defs.specs.Library.{Library, values_of}
 use Rattle.lib_defs.specs.Laws.{KeepsLaws}
 use Rattle.run_defs.specs.declared.outcome.Outcome.TheVariants.{OutOfTicks}
-use Rattle.run_defs.specs.State.{State, sealed}
-use Rattle.run_defs.specs.Evaluation.{Evaluation}
+use Rattle.run_defs.specs.State.{State}
 use Rattle.run_defs.specs.Functions.{Environment, function_at, function_number, value_shown}
 use Rattle.run_defs.specs.Fits.{is_call_trap}
 use Rattle.run_defs.specs.Replay.{OpenCall}
-use Rattle.run_defs.specs.Kept.{At, Keeps, EnterKeeps}
+use Rattle.run_defs.specs.Kept.{At, EnterKeeps}
 use Rattle.run_defs.proofs.Completing.{calls_lawful}
 use Rattle.run_defs.proofs.Following.{at_sealed, at_tick, at_left, quiet_closes, value_closes, keeps_tick, entered_keeps}
 use Rattle.run_defs.proofs.Following.{automatic_keeps}
@@ -73,7 +72,7 @@ module _ (e : Environment) (calls : List OpenCall) where
       then_keeps e calls _ _ (entered_keeps e s calls a) (λ u s1 a1.
       then_keeps e calls _ _ (parameters_keep f.parameters t.parameters 0 args [] here s1 a1) (λ held s2 a2.
       then_keeps e calls _ _ (statement_keeps e calls program call kept result _ _ f.body t.body held _
-          (at_parameters f.parameters (reverse held) s2 a2)) (λ flow s3 a3.
+      (at_parameters f.parameters (reverse held) s2 a2)) (λ flow s3 a3.
       at_left e _ calls (at_all_died e calls (numbers held) s3 a3))))
 
 -- a function of the unit is well-typed
@@ -133,7 +132,7 @@ module _ (library : Library) (laws : KeepsLaws library) (program : Program)
   compatible_keeps : (enter : Enter) → EntersKeep enter → (calls : List OpenCall) (b : Bool) (f : Named) (p : Pointer)
       (args : List Arg) (result : Pointer) (here : Pos) → designated_by program.functions p ≡ Some f
       → StepKeeps e calls
-          (λ s. if_compatible b e p here s (function_call e enter (function_number p) f args result here))
+      (λ s. if_compatible b e p here s (function_call e enter (function_number p) f args result here))
   compatible_keeps enter kept calls true f p args result here is s a =
       function_keeps enter kept calls (function_number p) f args result here s a
   compatible_keeps enter kept calls false f p args result here is s a =

@@ -1,5 +1,5 @@
 -- Each expression keeps what is kept, where calls do.
-use Rattle.std.proofs.Common.{ℕ, Bool, true, false, List, [], ◌∷◌, Option, Some, None}
+use Rattle.std.proofs.Common.{ℕ, Bool, true, false, List, Option, Some, None}
 use Rattle.std.specs.Prelude.{pos, not}
 use Rattle.critical_table.specs.declared.code.Code.TheVariants.{U04}
 use Rattle.critical_table.specs.declared.pos.Pos.{Pos}
@@ -7,10 +7,8 @@ use Rattle.object_store.specs.declared.pointer.Pointer.{Pointer}
 use Rattle.c_types.specs.CType.{CType}
 use Rattle.lib_defs.specs.declared.value.Arg.{Arg}
 use Rattle.lib_defs.specs.declared.value.Value.{Value}
-use Rattle.run_defs.specs.State.{State}
 use Rattle.run_defs.specs.Functions.{Environment}
 use Rattle.run_defs.specs.Replay.{OpenCall}
-use Rattle.run_defs.specs.Kept.{At, Keeps}
 use Rattle.run_defs.proofs.Following.{automatic_keeps, undefined_closes}
 use Rattle.c_core.specs.declared.form.Content.{Content}
 use Rattle.c_core.specs.declared.form.Content.TheVariants as content
@@ -127,18 +125,18 @@ module _ (e : Environment) (calls : List OpenCall) (program : Program) (call : C
     node_keeps names here (tree.Difference size left right) t =
         two_keep e calls _ _ _ (value_keeps names left t.2) (value_keeps names right t.4)
         (λ v w. λ s a. then_keeps e calls _ _ (found_keeps e calls (difference size (pointer_in v) (pointer_in w)) here s a)
-            (λ n s1 a1. a1))
+        (λ n s1 a1. a1))
     node_keeps names here (tree.Assign scalar place operand) t =
         two_keep e calls _ _ _ (value_keeps names place t.1) (value_keeps names operand t.3)
         (λ v w. assigned_keeps e calls scalar (pointer_in v) w here)
     node_keeps names here (tree.AssignWhole size place operand) t =
         two_keep e calls _ _ _ (value_keeps names place t.2) (value_keeps names operand t.4)
         (λ v w. λ s a. then_keeps e calls _ _ (copied_keeps e calls size (pointer_in v) (pointer_in w) here s a)
-            (λ u s1 a1. a1))
+        (λ u s1 a1. a1))
     node_keeps names here (tree.Update change place number) t =
         two_keep e calls _ _ _ (value_keeps names place t.1) (value_keeps names number t.3)
         (λ v w. λ s a. then_keeps e calls _ _ (updated_keeps e calls change (pointer_in v) (number_in w) here s a)
-            (λ contents s1 a1. a1))
+        (λ contents s1 a1. a1))
     node_keeps names here (tree.Step stride number_first pointer number) t = two_keep_if e calls number_first _ _ _
         (value_keeps names pointer t.2) (value_keeps names number t.4)
         (λ v w. moved_keeps e calls (moved stride (pointer_in v) (number_in w)) here)
@@ -152,7 +150,7 @@ module _ (e : Environment) (calls : List OpenCall) (program : Program) (call : C
         then_right_keeps e calls _ _ (value_keeps names left t.1) (value_keeps names right t.2)
     node_keeps names here (tree.Postfix change place) t = one_keeps e calls _ _ (value_keeps names place t.2)
         (λ p s a. then_keeps e calls _ _ (updated_keeps e calls change (pointer_in p) (pos 1) here s a)
-            (λ contents s1 a1. a1))
+        (λ contents s1 a1. a1))
     node_keeps names here (tree.Call used gives function operands) t = λ made s a.
         then_keeps e calls _ _ (value_keeps names function t.1 made s a) (λ f s1 a1.
         then_keeps e calls _ _ (values_keep names operands t.2 f.made s1 a1) (λ args s2 a2.

@@ -1,5 +1,5 @@
 -- What each part of an evaluation keeps: the journal so far can be replayed, and where the run stops it is lawful.
-use Rattle.std.proofs.Common.{◌≡◌, ℕ, ◌≤◌, Bool, true, false, List, [], ◌∷◌, length, refl, sym, subst, Option, Some, None}
+use Rattle.std.proofs.Common.{◌≡◌, ℕ, Bool, true, false, List, [], ◌∷◌, refl, subst, None}
 use Rattle.std.specs.Prelude.{ℤ, Result, Ok, Err}
 use Rattle.acc_num.specs.declared.fault.NumFault.{NumFault}
 use Rattle.critical_table.specs.declared.code.Code.{Code}
@@ -11,8 +11,6 @@ use Rattle.object_store.specs.Steps.{bytes_at}
 use Rattle.object_store.specs.Reach.{reach}
 use Rattle.object_store.proofs.RangeLemmas.{in_range, length-bytes_in}
 use Rattle.lib_defs.specs.declared.value.Value.{Value}
-use Rattle.lib_defs.specs.declared.value.Value.TheVariants.{Num, Ptr}
-use Rattle.run_defs.specs.declared.attempt.Attempt.{Attempt}
 use Rattle.run_defs.specs.State.{State, died}
 use Rattle.run_defs.specs.Evaluation.{Evaluation, Gives, bind}
 use Rattle.run_defs.specs.Loads.{read_attempt, found}
@@ -23,20 +21,18 @@ use Rattle.run_defs.proofs.Following.{at_died, at_patched, undefined_closes, kee
 use Rattle.run_defs.proofs.Starting.{number_keeps, pointer_keeps}
 use Rattle.c_core.specs.declared.form.Scalar.{Scalar}
 use Rattle.c_core.specs.declared.form.Scalar.TheVariants as scalar
-use Rattle.c_core.specs.declared.form.Content.{Content}
-use Rattle.c_core.specs.declared.form.Content.TheVariants as content
 use Rattle.c_core.specs.declared.operator.By.{By}
 use Rattle.c_core.specs.declared.operator.Change.{Change}
 use Rattle.c_core.specs.declared.operator.Change.TheVariants as change
 use Rattle.c_core.specs.Operations.{operator_outcome}
 use Rattle.acc_num.specs.Operations.{converted_to}
-use Rattle.vm_code.specs.Accesses.{number_in, pointer_in, loaded, scalar_attempt, scalar_stored, overlap_partly, apart_if}
+use Rattle.vm_code.specs.Accesses.{number_in, pointer_in, loaded, scalar_stored, overlap_partly, apart_if}
 use Rattle.vm_code.specs.Accesses.{copied}
 use Rattle.vm_code.specs.Pointers.{moved}
 use Rattle.vm_code.specs.Operators.{computed, told_if_found, pointer_moved, assigned, is_true, told}
 use Rattle.vm_code.specs.Slots.{all_died}
-use Rattle.code_gen.specs.Updates.{designated, changed_scalar, new_content, Contents, updated}
-use Rattle.code_gen.specs.Evaluating.{Yield, Evaluates, of_one, of_two, of_two_if, one_then, one_of, by_test, as_truth}
+use Rattle.code_gen.specs.Updates.{designated, changed_scalar, new_content, updated}
+use Rattle.code_gen.specs.Evaluating.{Evaluates, of_one, of_two, of_two_if, one_then, one_of, by_test, as_truth}
 use Rattle.code_gen.specs.Evaluating.{full, yields}
 
 module _ (e : Environment) (calls : List OpenCall) where

@@ -1,5 +1,5 @@
 -- Each statement keeps what is kept, where calls do.
-use Rattle.std.proofs.Common.{◌≡◌, ℕ, zero, suc, Bool, true, false, List, [], ◌∷◌, ◌++◌, refl, Option, Some, None}
+use Rattle.std.proofs.Common.{ℕ, zero, suc, Bool, true, false, List, [], ◌∷◌, ◌++◌, refl, Option, Some, None}
 use Rattle.critical_table.specs.declared.pos.Pos.{Pos}
 use Rattle.object_store.specs.declared.pointer.Pointer.{Pointer}
 use Rattle.lib_defs.specs.declared.value.Value.{Value}
@@ -8,7 +8,7 @@ use Rattle.run_defs.specs.State.{State}
 use Rattle.run_defs.specs.Evaluation.{Evaluation, Gives}
 use Rattle.run_defs.specs.Functions.{Environment}
 use Rattle.run_defs.specs.Replay.{OpenCall}
-use Rattle.run_defs.specs.Kept.{At, Keeps}
+use Rattle.run_defs.specs.Kept.{Keeps}
 use Rattle.run_defs.proofs.Following.{at_sealed, at_tick, quiet_closes, keeps_tick, stored_keeps, automatic_keeps}
 use Rattle.c_core.specs.declared.form.Content.{Content}
 use Rattle.c_core.specs.declared.form.Content.TheVariants as content
@@ -69,9 +69,9 @@ module _ (e : Environment) (calls : List OpenCall) where
   turns_keep (suc n) test body step kt kb ks s a = keeps_tick e calls calls s _ a (λ left is.
       then_keeps e calls _ _ (kt _ (at_tick e s calls left is a)) (λ goes_on s2 a2.
       branch_keeps goes_on _ _ (λ s3 a3. then_keeps e calls _ _ (kb s3 a3) (λ flow s4 a4.
-          turn_keeps flow _ (λ s5 a5. then_keeps e calls _ _ (ks s5 a5) (λ u s6 a6.
-              turns_keep n test body step kt kb ks s6 a6)) s4 a4))
-          (λ s3 a3. a3) s2 a2))
+      turn_keeps flow _ (λ s5 a5. then_keeps e calls _ _ (ks s5 a5) (λ u s6 a6.
+      turns_keep n test body step kt kb ks s6 a6)) s4 a4))
+      (λ s3 a3. a3) s2 a2))
 
   do_turns_keep : (n : ℕ) (body : State → Evaluation Flow) (test : State → Evaluation Bool) → StepKeeps e calls body
       → StepKeeps e calls test → StepKeeps e calls (do_turns n body test)
@@ -79,7 +79,7 @@ module _ (e : Environment) (calls : List OpenCall) where
   do_turns_keep (suc n) body test kb kt s a = keeps_tick e calls calls s _ a (λ left is.
       then_keeps e calls _ _ (kb _ (at_tick e s calls left is a)) (λ flow s2 a2.
       turn_keeps flow _ (λ s3 a3. then_keeps e calls _ _ (kt s3 a3) (λ goes_on s4 a4.
-          branch_keeps goes_on _ _ (do_turns_keep n body test kb kt) (λ s5 a5. a5) s4 a4)) s2 a2))
+      branch_keeps goes_on _ _ (do_turns_keep n body test kb kt) (λ s5 a5. a5) s4 a4)) s2 a2))
 
   label_keeps : (at : Option ℕ) (items : ℕ → State → Evaluation Flow) → ((k : ℕ) → StepKeeps e calls (items k))
       → StepKeeps e calls (entered_at at items)
@@ -103,73 +103,73 @@ module _ (e : Environment) (calls : List OpenCall) where
       then_keeps e calls _ _ (kept (made ++ held) s1 a1) (λ flow s2 a2. at_all_died e calls (numbers made) s2 a2))
 
 module _ (e : Environment) (calls : List OpenCall) (program : Program) (call : Call) (kept : CallKeeps e calls call)
-    where
-  evaluated_keeps : {A : Type 0} (names : Names) (core : Core) (held : List Held)
-      (use_value : Value → State → Evaluation A) → CoreTyped names core
-      → ((v : Value) → StepKeeps e calls (use_value v)) → StepKeeps e calls (evaluated program call core held use_value)
-  evaluated_keeps names core held use_value t go =
-      full_keeps e calls _ use_value (value_keeps e calls program call kept held names core t) go
+  where
+    evaluated_keeps : {A : Type 0} (names : Names) (core : Core) (held : List Held)
+        (use_value : Value → State → Evaluation A) → CoreTyped names core
+        → ((v : Value) → StepKeeps e calls (use_value v)) → StepKeeps e calls (evaluated program call core held use_value)
+    evaluated_keeps names core held use_value t go =
+        full_keeps e calls _ use_value (value_keeps e calls program call kept held names core t) go
 
-  tested_keeps : (names : Names) (test : Core) (held : List Held) → CoreTyped names test
-      → StepKeeps e calls (tested program call test held)
-  tested_keeps names test held t = evaluated_keeps names test held (λ v. Gives (is_true v)) t (λ v s a. a)
+    tested_keeps : (names : Names) (test : Core) (held : List Held) → CoreTyped names test
+        → StepKeeps e calls (tested program call test held)
+    tested_keeps names test held t = evaluated_keeps names test held (λ v. Gives (is_true v)) t (λ v s a. a)
 
-  done_keeps : (names : Names) (core : Core) (held : List Held) → CoreTyped names core
-      → StepKeeps e calls (done program call core held)
-  done_keeps names core held t = evaluated_keeps names core held (λ v. Gives tt) t (λ v s a. a)
+    done_keeps : (names : Names) (core : Core) (held : List Held) → CoreTyped names core
+        → StepKeeps e calls (done program call core held)
+    done_keeps names core held t = evaluated_keeps names core held (λ v. Gives tt) t (λ v s a. a)
 
-  module _ (result : Pointer) where
-    mutual
-      pub statement_keeps : (names : Names) (flow : typed.Flow) (st : Statement) → StatementTyped names flow st
-          → (held : List Held) → StepKeeps e calls (statement program call result st held)
-      statement_keeps names flow (Stands here action) t held = action_keeps names flow here action t held
+    module _ (result : Pointer) where
+      mutual
+        pub statement_keeps : (names : Names) (flow : typed.Flow) (st : Statement) → StatementTyped names flow st
+            → (held : List Held) → StepKeeps e calls (statement program call result st held)
+        statement_keeps names flow (Stands here action) t held = action_keeps names flow here action t held
 
-      action_keeps : (names : Names) (flow : typed.Flow) (here : Pos) (action : Action) → ActionTyped names flow action
-          → (held : List Held) → StepKeeps e calls (action_done program call result here action held)
-      action_keeps names flow here (unit.Block locals items) t held =
-          block_keeps e calls flow.slots locals names.objects t.0 _
-          (λ held1. items_keep (names_in_block locals names) flow items t.1 0 held1) held
-      action_keeps names flow here (unit.Zero slot size) t held =
-          λ s a. next_keeps e calls _ (stored_keeps e _ _ here s calls a)
-      action_keeps names flow here (unit.Initialize slot at content core) t held = λ s a. next_keeps e calls _
-          (evaluated_keeps names core held _ t.3 (λ v. content_keeps e calls content _ v (pos_in core)) s a)
-      action_keeps names flow here (unit.InitializeBytes slot at bytes) t held =
-          λ s a. next_keeps e calls _ (stored_keeps e _ _ here s calls a)
-      action_keeps names flow here (unit.SealBytes slot at len) t held = λ s a. at_sealed e s calls _ _ a
-      action_keeps names flow here (unit.Evaluate core) t held =
-          λ s a. next_keeps e calls _ (done_keeps names core held t.1 s a)
-      action_keeps names flow here (unit.If test first second) t held = λ s a. then_keeps e calls _ _
-          (tested_keeps names test held t.1 s a) (λ b s1 a1. branch_keeps e calls b _ _
-          (statement_keeps names flow first t.2 held) (statement_keeps names flow second t.3 held) s1 a1)
-      action_keeps names flow here (unit.While test body) t held = λ s a. turns_keep e calls s.ticks _ _ no_step
-          (tested_keeps names test held t.1)
-          (statement_keeps names (in_loop flow) body t.2 held) (λ s1 a1. a1) s a
-      action_keeps names flow here (unit.Do body test) t held = λ s a. do_turns_keep e calls s.ticks _ _
-          (statement_keeps names (in_loop flow) body t.0 held)
-          (tested_keeps names test held t.2) s a
-      action_keeps names flow here (unit.For test step body) t held = λ s a. turns_keep e calls s.ticks _ _ _
-          (tested_keeps names test held t.1)
-          (statement_keeps names (in_loop flow) body t.4 held)
-          (done_keeps names step held t.3) s a
-      action_keeps names flow here (unit.Switch core locals items cases default) t held = λ s a. then_keeps e calls _ _
-          (evaluated_keeps names core held Gives t.0 (λ v s1 a1. a1) s a) (λ v s1 a1.
-          label_keeps e calls (label_at (number_in v) cases default) _ (λ k.
-          block_keeps e calls flow.slots locals names.objects t.2 _
-          (λ held1. items_keep (names_in_block locals names) (in_switch flow) items t.3 k held1) held) s1 a1)
-      action_keeps names flow here unit.Break t held = λ s a. a
-      action_keeps names flow here unit.Continue t held = λ s a. a
-      action_keeps names flow here unit.Return t held = λ s a. a
-      action_keeps names flow here (unit.ReturnValue core) t held =
-          evaluated_keeps names core held (λ v. Gives (Returned (Some v))) t.1 (λ v s a. a)
-      action_keeps names flow here (unit.ReturnWhole size core) t held =
-          evaluated_keeps names core held _ t.3 (λ v s a. then_keeps e calls _ _
-          (copied_keeps e calls size result (pointer_in v) (pos_in core) s a) (λ u s1 a1. a1))
+        action_keeps : (names : Names) (flow : typed.Flow) (here : Pos) (action : Action) → ActionTyped names flow action
+            → (held : List Held) → StepKeeps e calls (action_done program call result here action held)
+        action_keeps names flow here (unit.Block locals items) t held =
+            block_keeps e calls flow.slots locals names.objects t.0 _
+            (λ held1. items_keep (names_in_block locals names) flow items t.1 0 held1) held
+        action_keeps names flow here (unit.Zero slot size) t held =
+            λ s a. next_keeps e calls _ (stored_keeps e _ _ here s calls a)
+        action_keeps names flow here (unit.Initialize slot at content core) t held = λ s a. next_keeps e calls _
+            (evaluated_keeps names core held _ t.3 (λ v. content_keeps e calls content _ v (pos_in core)) s a)
+        action_keeps names flow here (unit.InitializeBytes slot at bytes) t held =
+            λ s a. next_keeps e calls _ (stored_keeps e _ _ here s calls a)
+        action_keeps names flow here (unit.SealBytes slot at len) t held = λ s a. at_sealed e s calls _ _ a
+        action_keeps names flow here (unit.Evaluate core) t held =
+            λ s a. next_keeps e calls _ (done_keeps names core held t.1 s a)
+        action_keeps names flow here (unit.If test first second) t held = λ s a. then_keeps e calls _ _
+            (tested_keeps names test held t.1 s a) (λ b s1 a1. branch_keeps e calls b _ _
+            (statement_keeps names flow first t.2 held) (statement_keeps names flow second t.3 held) s1 a1)
+        action_keeps names flow here (unit.While test body) t held = λ s a. turns_keep e calls s.ticks _ _ no_step
+            (tested_keeps names test held t.1)
+            (statement_keeps names (in_loop flow) body t.2 held) (λ s1 a1. a1) s a
+        action_keeps names flow here (unit.Do body test) t held = λ s a. do_turns_keep e calls s.ticks _ _
+            (statement_keeps names (in_loop flow) body t.0 held)
+            (tested_keeps names test held t.2) s a
+        action_keeps names flow here (unit.For test step body) t held = λ s a. turns_keep e calls s.ticks _ _ _
+            (tested_keeps names test held t.1)
+            (statement_keeps names (in_loop flow) body t.4 held)
+            (done_keeps names step held t.3) s a
+        action_keeps names flow here (unit.Switch core locals items cases default) t held = λ s a. then_keeps e calls _ _
+            (evaluated_keeps names core held Gives t.0 (λ v s1 a1. a1) s a) (λ v s1 a1.
+            label_keeps e calls (label_at (number_in v) cases default) _ (λ k.
+            block_keeps e calls flow.slots locals names.objects t.2 _
+            (λ held1. items_keep (names_in_block locals names) (in_switch flow) items t.3 k held1) held) s1 a1)
+        action_keeps names flow here unit.Break t held = λ s a. a
+        action_keeps names flow here unit.Continue t held = λ s a. a
+        action_keeps names flow here unit.Return t held = λ s a. a
+        action_keeps names flow here (unit.ReturnValue core) t held =
+            evaluated_keeps names core held (λ v. Gives (Returned (Some v))) t.1 (λ v s a. a)
+        action_keeps names flow here (unit.ReturnWhole size core) t held =
+            evaluated_keeps names core held _ t.3 (λ v s a. then_keeps e calls _ _
+            (copied_keeps e calls size result (pointer_in v) (pos_in core) s a) (λ u s1 a1. a1))
 
-      items_keep : (names : Names) (flow : typed.Flow) (items : Statements) → StatementsTyped names flow items
-          → (skipped : ℕ) (held : List Held) → StepKeeps e calls (items_from program call result items skipped held)
-      items_keep names flow NoStatement t skipped held s a = a
-      items_keep names flow (MoreStatements first rest) t (suc skipped) held s a =
-          items_keep names flow rest t.1 skipped held s a
-      items_keep names flow (MoreStatements first rest) t zero held s a =
-          then_keeps e calls _ _ (statement_keeps names flow first t.0 held s a) (λ f s1 a1.
-          after_keeps e calls f _ (items_keep names flow rest t.1 0 held) s1 a1)
+        items_keep : (names : Names) (flow : typed.Flow) (items : Statements) → StatementsTyped names flow items
+            → (skipped : ℕ) (held : List Held) → StepKeeps e calls (items_from program call result items skipped held)
+        items_keep names flow NoStatement t skipped held s a = a
+        items_keep names flow (MoreStatements first rest) t (suc skipped) held s a =
+            items_keep names flow rest t.1 skipped held s a
+        items_keep names flow (MoreStatements first rest) t zero held s a =
+            then_keeps e calls _ _ (statement_keeps names flow first t.0 held s a) (λ f s1 a1.
+            after_keeps e calls f _ (items_keep names flow rest t.1 0 held) s1 a1)

@@ -3,6 +3,7 @@ pub mod KeptParts
 pub mod KeptExpressions
 pub mod KeptStatements
 pub mod KeptCalls
+pub mod LawfulRuns
 pub mod Lengths
 pub mod StatementLengths
 pub mod Sizes

@@ -18,3 +18,4 @@ pub mod StatementCode
 pub mod CallsMade
 pub mod UnitCode
 pub mod SizeLaw
+pub mod JournalLaw

@@ -1,10 +1,19 @@
 //! What holds of each meaning, and of the code of each unit.
+ghost use Rattle.code_gen.specs.JournalLaw.{EachJournalIsLawful};
 ghost use Rattle.code_gen.specs.Law.{EachJournalEnds};
 ghost use Rattle.code_gen.specs.SizeLaw.{AllSizesAreLengths};
 
 /// The last event of each run is its end, and tells its outcome.
 pub fn end_law()
     ensures { EachJournalEnds }
+{}
+
+/// The journal of each run is lawful: of each well-typed unit, over every library that keeps its laws, for each input and
+/// all budgets. Whoever replays it, knowing nothing of C, finds each store in a live object and on bytes without a mark,
+/// each trap to be the case of its access, and each violated runtime-constraint with its action, its one call of the
+/// current handler and its failure value.
+pub fn journal_law()
+    ensures { EachJournalIsLawful }
 {}
 
 /// The sizes of expressions, statements and functions, by which the places in code are computed, are the lengths of
