@@ -1,5 +1,6 @@
 -- Calls and the functions of a unit keep what is kept, over every library that keeps its laws.
-use Rattle.std.proofs.Common.{◌≡◌, ℕ, zero, suc, Bool, true, false, cond, List, [], ◌∷◌, refl, ap, Option, Some, None, ◌∙◌}
+use Rattle.std.proofs.Common.{◌≡◌, ℕ, zero, suc, Bool, true, false, cond, List, [], ◌∷◌, refl, ap, Option, Some, None}
+use Rattle.std.proofs.Common.{◌∙◌}
 use Rattle.std.proofs.Common.{reverse}
 use Rattle.std.specs.Prelude.{nat_lt, slice_get}
 use Rattle.std.specs.Option.{option_map}
@@ -25,7 +26,8 @@ use Rattle.run_defs.specs.Fits.{is_call_trap}
 use Rattle.run_defs.specs.Replay.{OpenCall}
 use Rattle.run_defs.specs.Kept.{At, EnterKeeps}
 use Rattle.run_defs.proofs.Completing.{calls_lawful}
-use Rattle.run_defs.proofs.Following.{at_sealed, at_tick, at_left, quiet_closes, value_closes, keeps_tick, entered_keeps}
+use Rattle.run_defs.proofs.Following.{at_sealed, at_tick, at_left, quiet_closes, value_closes, keeps_tick}
+use Rattle.run_defs.proofs.Following.{entered_keeps}
 use Rattle.run_defs.proofs.Following.{automatic_keeps}
 use Rattle.run_defs.proofs.RowFacts.{no_function}
 use Rattle.c_core.specs.declared.function.Range.{Range}

@@ -28,7 +28,8 @@ use Rattle.c_types.specs.Compatible.{same_bool}
 use Rattle.acc_num.specs.Operations.{is_zero, converted_to}
 use Rattle.run_defs.specs.Evaluation.{Gives}
 use Rattle.vm_code.specs.Slots.{Held}
-use Rattle.code_gen.specs.Expressions.{Call, value_object, result_object, argument_object, call_value, value, node_value}
+use Rattle.code_gen.specs.Expressions.{Call, value_object, result_object, argument_object, call_value, value}
+use Rattle.code_gen.specs.Expressions.{node_value}
 use Rattle.code_gen.specs.Expressions.{values}
 use Rattle.code_gen.proofs.KeptParts.{StepKeeps, PartKeeps, then_keeps, computed_keeps, told_keeps, moved_keeps}
 use Rattle.code_gen.proofs.KeptParts.{found_keeps, loaded_keeps, designated_keeps, assigned_keeps, copied_keeps}
@@ -47,7 +48,8 @@ module _ (e : Environment) (calls : List OpenCall) where
   object_keeps size is made s a =
       then_keeps e calls _ _ (automatic_keeps e size s calls is.0 is.1 a) (λ place s1 a1. a1)
 
-  result_keeps : (gives : Option Content) → IsGiven gives → (made : List ℕ) → StepKeeps e calls (result_object gives made)
+  result_keeps : (gives : Option Content) → IsGiven gives → (made : List ℕ)
+      → StepKeeps e calls (result_object gives made)
   result_keeps None is made s a = a
   result_keeps (Some (content.Scalar scalar)) is made s a = a
   result_keeps (Some (content.Whole size)) is made s a = object_keeps size is made s a
@@ -79,7 +81,8 @@ module _ (e : Environment) (calls : List OpenCall) (program : Program) (call : C
     node_keeps names here (tree.AddressOf place) t = value_keeps names place t.1
     node_keeps names here (tree.Retype pointer) t = value_keeps names pointer t.1
     node_keeps names here (tree.Reach by size align pointer) t =
-        one_keeps e calls _ _ (value_keeps names pointer t.4) (λ p. designated_keeps e calls by size align (pointer_in p) here)
+        one_keeps e calls _ _ (value_keeps names pointer t.4)
+        (λ p. designated_keeps e calls by size align (pointer_in p) here)
     node_keeps names here (tree.Member at place) t =
         one_keeps e calls _ (λ p. Gives (Ptr (member_place at (pointer_in p))))
         (value_keeps names place t.2) (λ p s a. a)
@@ -101,7 +104,8 @@ module _ (e : Environment) (calls : List OpenCall) (program : Program) (call : C
         one_keeps e calls _ (λ a. Gives Nothing)
         (value_keeps names operand t.1) (λ p s a. a)
     node_keeps names here (tree.Negate kind operand) t =
-        one_keeps e calls _ _ (value_keeps names operand t.1) (λ p. computed_keeps e calls (negation kind (number_in p)) here)
+        one_keeps e calls _ _ (value_keeps names operand t.1)
+        (λ p. computed_keeps e calls (negation kind (number_in p)) here)
     node_keeps names here (tree.Flip kind operand) t =
         one_keeps e calls _ (λ a. Gives (Num (complement kind (number_in a))))
         (value_keeps names operand t.1) (λ p s a. a)
@@ -124,7 +128,8 @@ module _ (e : Environment) (calls : List OpenCall) (program : Program) (call : C
         (λ v w. told_keeps e calls (ordered relation (pointer_in v) (pointer_in w)) here)
     node_keeps names here (tree.Difference size left right) t =
         two_keep e calls _ _ _ (value_keeps names left t.2) (value_keeps names right t.4)
-        (λ v w. λ s a. then_keeps e calls _ _ (found_keeps e calls (difference size (pointer_in v) (pointer_in w)) here s a)
+        (λ v w. λ s a. then_keeps e calls _ _
+        (found_keeps e calls (difference size (pointer_in v) (pointer_in w)) here s a)
         (λ n s1 a1. a1))
     node_keeps names here (tree.Assign scalar place operand) t =
         two_keep e calls _ _ _ (value_keeps names place t.1) (value_keeps names operand t.3)

@@ -70,7 +70,8 @@ module _ (e : Environment) (calls : List OpenCall) where
   loaded_keeps scalar.Pointer place here s a =
       then_keeps _ _ (pointer_keeps e place here s calls a) (λ p s1 a1. a1)
 
-  pub scalar_keeps : (of : Scalar) (place : Pointer) (v : Value) (here : Pos) → StepKeeps (scalar_stored of place v here)
+  pub scalar_keeps : (of : Scalar) (place : Pointer) (v : Value) (here : Pos)
+      → StepKeeps (scalar_stored of place v here)
   scalar_keeps (scalar.Number kind) place v here s a = stored_keeps e _ _ here s calls a
   scalar_keeps scalar.Pointer place v here s a = stored_keeps e _ _ here s calls a
 

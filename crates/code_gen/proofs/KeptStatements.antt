@@ -106,7 +106,8 @@ module _ (e : Environment) (calls : List OpenCall) (program : Program) (call : C
   where
     evaluated_keeps : {A : Type 0} (names : Names) (core : Core) (held : List Held)
         (use_value : Value → State → Evaluation A) → CoreTyped names core
-        → ((v : Value) → StepKeeps e calls (use_value v)) → StepKeeps e calls (evaluated program call core held use_value)
+        → ((v : Value) → StepKeeps e calls (use_value v))
+        → StepKeeps e calls (evaluated program call core held use_value)
     evaluated_keeps names core held use_value t go =
         full_keeps e calls _ use_value (value_keeps e calls program call kept held names core t) go
 
@@ -124,7 +125,8 @@ module _ (e : Environment) (calls : List OpenCall) (program : Program) (call : C
             → (held : List Held) → StepKeeps e calls (statement program call result st held)
         statement_keeps names flow (Stands here action) t held = action_keeps names flow here action t held
 
-        action_keeps : (names : Names) (flow : typed.Flow) (here : Pos) (action : Action) → ActionTyped names flow action
+        action_keeps : (names : Names) (flow : typed.Flow) (here : Pos) (action : Action)
+            → ActionTyped names flow action
             → (held : List Held) → StepKeeps e calls (action_done program call result here action held)
         action_keeps names flow here (unit.Block locals items) t held =
             block_keeps e calls flow.slots locals names.objects t.0 _
@@ -151,7 +153,8 @@ module _ (e : Environment) (calls : List OpenCall) (program : Program) (call : C
             (tested_keeps names test held t.1)
             (statement_keeps names (in_loop flow) body t.4 held)
             (done_keeps names step held t.3) s a
-        action_keeps names flow here (unit.Switch core locals items cases default) t held = λ s a. then_keeps e calls _ _
+        action_keeps names flow here (unit.Switch core locals items cases default) t held = λ s a.
+            then_keeps e calls _ _
             (evaluated_keeps names core held Gives t.0 (λ v s1 a1. a1) s a) (λ v s1 a1.
             label_keeps e calls (label_at (number_in v) cases default) _ (λ k.
             block_keeps e calls flow.slots locals names.objects t.2 _

@@ -71,7 +71,12 @@ result_long (Some (content.Whole size)) slot = refl
 call_long : (used : Bool) (gives : Option Content) (slot : ℕ) (call : Instr)
     → length (result_code gives slot ++ call ∷ used_code used) ≡ result_size gives + (used_size used + 1)
 call_long used gives slot call =
-    omega (arith, length-append (result_code gives slot) (call ∷ used_code used), result_long gives slot, used_long used)
+    omega (
+      arith,
+      length-append (result_code gives slot) (call ∷ used_code used),
+      result_long gives slot,
+      used_long used,
+    )
 
 module _ (program : Program) (table : List Through) where
   mutual
@@ -112,7 +117,8 @@ module _ (program : Program) (table : List Through) where
     node_long at slot here (tree.Compare comparison left right) =
         two_long here (i.Compare comparison ∷ []) _ _ _ _ 1 (code_long at slot left)
         (code_long _ _ right) refl
-    node_long at slot here (tree.Same equal left right) = two_long here (same_code equal) _ _ _ _ (same_size equal) (code_long at slot left)
+    node_long at slot here (tree.Same equal left right) =
+        two_long here (same_code equal) _ _ _ _ (same_size equal) (code_long at slot left)
         (code_long _ _ right) (same_long equal)
     node_long at slot here (tree.Order relation left right) =
         two_long here (i.Order relation ∷ []) _ _ _ _ 1 (code_long at slot left)
@@ -129,7 +135,8 @@ module _ (program : Program) (table : List Through) where
     node_long at slot here (tree.AssignWhole size place value) =
         two_long here (i.Copy size ∷ []) _ _ _ _ 1 (code_long at slot place)
         (code_long _ _ value) refl
-    node_long at slot here (tree.Update change place number) = two_long here (update_code change) _ _ _ _ (update_size change) (code_long at slot place)
+    node_long at slot here (tree.Update change place number) =
+        two_long here (update_code change) _ _ _ _ (update_size change) (code_long at slot place)
         (code_long _ _ number) (update_long change)
     node_long at slot here (tree.Postfix change place) =
         one_long here (postfix_code change) _ _ (postfix_size change) (code_long at slot place) (postfix_long change)
@@ -140,7 +147,8 @@ module _ (program : Program) (table : List Through) where
         (code_long at slot value) refl
     node_long at slot here (tree.Step stride true pointer number) =
         let h : length (code_of program table at slot here (tree.Step stride true pointer number))
-        ≡ size_in number + (size_in pointer + 2) = two_long here (i.Swap ∷ i.Step stride ∷ []) _ _ _ _ 2 (code_long at slot number)
+        ≡ size_in number + (size_in pointer + 2) = two_long here (i.Swap ∷ i.Step stride ∷ []) _ _ _ _ 2
+        (code_long at slot number)
         (code_long _ _ pointer) refl in
         omega (arith, h)
     node_long at slot here (tree.AndAlso left right) =

@@ -271,7 +271,8 @@ module _ (program : Program) (table : List Through) where
         ++ on here (result_code gives (slot + (objects_in function + objects_among operands))
         ++ i.Call (count_among operands) (type_number table (through function operands)) ∷ used_code used)
     code_of at slot here (tree.ValueObject size value) = code_at at slot value
-        ++ on here (i.Make (slot + objects_in value) size ∷ i.Slot (slot + objects_in value) ∷ i.Swap ∷ i.Copy size ∷ [])
+        ++ on here (i.Make (slot + objects_in value) size ∷ i.Slot (slot + objects_in value)
+        ∷ i.Swap ∷ i.Copy size ∷ [])
 
     pub codes_at : ℕ → ℕ → Cores → List (Instr × Pos)
     codes_at at slot NoCore = []

@@ -1,4 +1,5 @@
--- The journal of each run is lawful: over every library that keeps its laws, for each well-typed unit, input and budgets.
+-- The journal of each run is lawful: over every library that keeps its laws, for each well-typed unit, input and
+-- budgets.
 use Rattle.std.specs.Prelude.{ℕ, ◌<◌, ◌≤◌}
 use Rattle.std.specs.List.{All}
 use Rattle.lib_defs.specs.Library.{Library}

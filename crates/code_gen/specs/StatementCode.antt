@@ -1,5 +1,6 @@
 -- The code of a statement, one clause a node: how many instructions it has, and which they are.
-use Rattle.std.specs.Prelude.{ℕ, zero, suc, ◌+◌, List, [], ◌∷◌, ◌++◌, length, reverse, map, Option, Some, None, unwrap_or}
+use Rattle.std.specs.Prelude.{ℕ, zero, suc, ◌+◌, List, [], ◌∷◌, ◌++◌, length, reverse, map, Option, Some, None}
+use Rattle.std.specs.Prelude.{unwrap_or}
 use Rattle.critical_table.specs.declared.pos.Pos.{Pos}
 use Rattle.c_core.specs.declared.form.Content.{Content}
 use Rattle.c_core.specs.declared.form.Content.TheVariants as content
