@@ -8,10 +8,10 @@ pub fn end_law()
     ensures { EachJournalEnds }
 {}
 
-/// The journal of each run is lawful: of each well-typed unit, over every library that keeps its laws, for each input and
-/// all budgets. Whoever replays it, knowing nothing of C, finds each store in a live object and on bytes without a mark,
-/// each trap to be the case of its access, and each violated runtime-constraint with its action, its one call of the
-/// current handler and its failure value.
+/// The journal of each run is lawful: of each well-typed unit, over every library that keeps its laws, for each input
+/// and all budgets. Whoever replays it, knowing nothing of C, finds each store in a live object and on bytes without a
+/// mark, each trap to be the case of its access, and each violated runtime-constraint with its action, its one call of
+/// the current handler and its failure value.
 pub fn journal_law()
     ensures { EachJournalIsLawful }
 {}
