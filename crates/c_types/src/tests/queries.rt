@@ -79,3 +79,26 @@ fn a_const_member_is_found_in_an_array(rt: HostRuntime) -> Result<(), Fail> {
     assert!(rt; !has_const(rt.alloc(), false)?);
     Ok(())
 }
+
+#[test]
+fn versions_of_compatible_types_are_compatible_whatever_their_qualifiers_are(
+    rt: HostRuntime,
+) -> Result<(), Fail> {
+    let mut table = TypeTable::new(rt.alloc())?;
+    let int = table.basic(Basic::Int);
+    let constant = table.qualified(int, CONST)?;
+    let (to_int, to_constant) = (table.pointer(int)?, table.pointer(constant)?);
+    assert!(rt; table.compatible_unqualified(int, constant));
+    assert!(rt; !table.compatible_unqualified(to_int, to_constant));
+    Ok(())
+}
+
+#[test]
+fn what_the_allocator_of_a_table_makes_outlives_it(rt: HostRuntime) -> Result<(), Fail> {
+    let table = TypeTable::new(rt.alloc())?;
+    let mut ids = Vec::new(table.alloc());
+    ids.push(table.basic(Basic::Int))?;
+    drop(table);
+    assert_eq!(rt; ids.len(), 1);
+    Ok(())
+}
