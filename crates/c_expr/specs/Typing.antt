@@ -62,13 +62,13 @@ unfoldable mutual
       and_then (valued array env) (λ a env.
       and_then (valued index env) (λ i env. settle at env (index_rule env.structures at a i)))
   typed used (tree.Call at function arguments) env =
-      and_then (valued function env) (λ f env.
+      and_then (converted true function env) (λ f env.
       and_then (passed arguments (callee_parameters f) (callee_varies f) env) (λ all env.
       settle at env (call_rule env.structures at used f all)))
   typed used (tree.Member at access.Dot whole x) env =
       and_then (typed true whole env) (λ w env. settle at env (dot_rule env.structures at x w))
   typed used (tree.Member at access.Arrow whole x) env =
-      and_then (valued whole env) (λ w env. settle at env (arrow_rule env.structures at x w))
+      and_then (converted true whole env) (λ w env. settle at env (arrow_rule env.structures at x w))
   typed used (tree.PostfixOp at operator operand) env =
       and_then (typed true operand env) (λ o env.
       settle at env (postfix_rule env.structures at (is_decrement operator) o))
