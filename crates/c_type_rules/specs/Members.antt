@@ -6,14 +6,14 @@ use Rattle.c_types.specs.CType.{CType}
 use Rattle.c_types.specs.Compounds.{structure_with}
 use Rattle.c_types.specs.Layouts.{layouts_in, size_with, largest}
 use Rattle.c_types.specs.Structures.{Structure}
-use Rattle.c_scopes.specs.Ruled.{Ruled, Fits, Breaks, Demand, ruled}
-use Rattle.c_type_rules.specs.Qualified.{is_function}
+use Rattle.c_scopes.specs.Ruled.{Ruled, Breaks, Demand, ruled}
+use Rattle.c_conversions.specs.Versions.{is_function}
 use Rattle.c_type_rules.specs.Arrays.{is_no_incomplete, is_without_length}
 
 -- the name is one of these
 abbrev pub is_among : List ℕ → List (List ℕ) → Bool
 is_among name [] = false
-is_among name (first ∷ rest) = bytes_eq first name || is_among name rest
+is_among name (first ∷ rest) = bytes_eq name first || is_among name rest
 
 -- A member is a complete object with a name of its own (6.7.2.1p3, 6.2.3).
 abbrev pub member_demands : List Structure → List (List ℕ) → List ℕ → CType → List Demand
@@ -26,8 +26,11 @@ abbrev pub member_rule : List Structure → List (List ℕ) → List ℕ → CTy
 member_rule structures earlier name type = ruled (member_demands structures earlier name type) tt
 
 -- a declaration of members that has no declarator; `declares` tells that it declares a tag or enumerators (6.7.2.1p2)
+abbrev pub no_member_demands : Bool → List Demand
+no_member_demands declares = (3, declares) ∷ (11, false) ∷ []
+
 abbrev pub no_member_rule : Bool → Ruled (Unit {0})
-no_member_rule declares = ruled ((3, declares) ∷ (11, false) ∷ []) tt
+no_member_rule declares = ruled (no_member_demands declares) tt
 
 abbrev pub body_demands : Bool → List Layout → List Demand
 body_demands is_union layouts = (8, nat_le (size_with is_union layouts) largest) ∷ []
