@@ -84,3 +84,6 @@ pub array_fits : (structures : List Structure) (of : CType) (length : Option ℕ
 array_fits structures of length f u e =
     subst (λ (fault : Option LayoutFault). Says fault (array_rule structures of length) (Array of length)) e
     (array_says structures of length _ _ refl refl f u)
+
+-- what the rule says in each case
+pub ruleset verdicts = (array_of_function, array_without_length, array_incomplete, array_large, array_fits)

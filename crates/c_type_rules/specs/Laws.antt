@@ -20,6 +20,6 @@ pub record AllRise : Type 0 where
   pub storage : (parameter before stands : Bool) → Rises (storage_demands parameter before stands)
   pub enumerated : (type : CType) (state : TagState) → Rises (enumerated_demands type state)
   pub enumerator : (here : Option Named) (value : Option ℤ) → Rises (enumerator_demands here value)
-  pub member : (structures : List Structure) (earlier : List (List ℕ)) (name : List ℕ) (type : CType)
-      → Rises (member_demands structures earlier name type)
+  pub member : (structures : List Structure) (given : Bool) (type : CType)
+      → Rises (member_demands structures given type)
   pub no_member : (declares : Bool) → Rises (no_member_demands declares)

@@ -7,4 +7,5 @@ pub mod Settings
 pub mod Tags
 pub mod Enumerators
 pub mod Members
+pub mod Completing
 pub mod Laws

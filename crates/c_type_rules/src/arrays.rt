@@ -51,7 +51,7 @@ pub fn is_without_length(types: &TypeTable, id: TypeId) -> bool
 ///
 /// Constraint 7 where the type of an element is incomplete, 8 where the array is too large, 9 where the length of an
 /// element was left out, 10 where elements are functions.
-#[tactic(auto, using(crate::proofs::Elements::array_of_function, crate::proofs::Elements::array_without_length, crate::proofs::Elements::array_incomplete, crate::proofs::Elements::array_large, crate::proofs::Elements::array_fits))]
+#[tactic(auto, using(crate::proofs::Elements::verdicts))]
 pub fn array_type(
     types: &mut TypeTable,
     pos: Pos,

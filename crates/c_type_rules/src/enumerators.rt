@@ -26,7 +26,7 @@ pub fn given_value(pos: Pos, constant: Result<i128, ConstFault>) -> Result<Optio
 
 /// An enumerator of that value; `here` is what its name stands for in the innermost scope (6.7.2.2p2, p3).
 ///
-/// Constraint 2 where the name stands for something there, 14 where the value is no constant, or none that an `int` has.
+/// Constraint 2 where the name stands for something there, 14 where there is no value, or none that an `int` has.
 pub fn enumerator(pos: Pos, here: Option<Binding>, value: Option<i128>) -> Result<i128, TypeFault>
     ensures { (types : Types) → Settles (spec.enumerator_rule (option_map (named_of types) here) value) pos result }
 {

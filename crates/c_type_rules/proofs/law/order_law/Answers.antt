@@ -16,6 +16,6 @@ returns c = record {
   storage = storage_rises;
   enumerated = λ type state. ((lit< tt, tt), (tt, tt));
   enumerator = λ here value. ((lit< tt, tt), (tt, tt));
-  member = λ structures earlier name type. ((lit< tt, (lit< tt, tt)), ((lit< tt, tt), (tt, tt)));
+  member = λ structures given type. ((lit< tt, (lit< tt, tt)), ((lit< tt, tt), (tt, tt)));
   no_member = λ declares. ((lit< tt, tt), (tt, tt));
 }
