@@ -22,3 +22,6 @@ pub use qualified::{pointer_type, qualifiers, restrict};
 pub use settings::{inline_word, storage_word};
 pub use tags::{compound_body, compound_tag, enumerated_body, enumerated_tag};
 pub use words::basic_type;
+
+#[cfg(test)]
+mod tests;
