@@ -1,6 +1,6 @@
 -- What a function of the program that decides a typing rule ensures: it answers what the rule does, unless memory runs
 -- out, and gives a broken rule the place that it was handed.
-use Rattle.std.specs.Prelude.{◌≡◌, ◌<◌, Result, Ok, Err}
+use Rattle.std.specs.Prelude.{◌≡◌, Option, Result, Ok, Err, IfSome, option_map}
 use Rattle.critical_table.specs.declared.pos.Pos.{Pos}
 use Rattle.c_types.specs.declared.shape.TypeId.{TypeId}
 use Rattle.c_types.specs.CType.{CType, type_of}
@@ -29,6 +29,11 @@ abbrev pub BreaksAt : {A : Type 0} → Ruled A → Pos → TypeFault → Type 0
 BreaksAt rule at (fault.Constraint number place) = (rule ≡ Breaks number) × (place ≡ at)
 BreaksAt rule at (fault.Memory _) = Unit {0}
 
+-- what a rule without types answers
+abbrev pub Settles : {A : Type 0} → Ruled A → Pos → Result A TypeFault → Type 0
+Settles rule at (Ok a) = rule ≡ Fits a
+Settles rule at (Err e) = BreaksAt rule at e
+
 module _ {A B : Type 0} (view : Types → B → A) (In : Types → B → Type 0) where
   -- what is answered is what the rule says
   abbrev pub Rules : Ruled A → Pos → Types → Types → Result B TypeFault → Type 0
@@ -40,6 +45,16 @@ module _ {A B : Type 0} (view : Types → B → A) (In : Types → B → Type 0)
     pub is : view new x ≡ a
     pub is_in : In new x
     pub kept : KeepsTable old new
+
+-- a type that may be none
+abbrev pub type_or_none : Types → Option TypeId → Option CType
+type_or_none types id = option_map (type_of types) id
+
+abbrev pub OptionIn : Types → Option TypeId → Type 0
+OptionIn types id = IfSome id (λ of. IdIn types of)
+
+abbrev pub RulesOption : Ruled (Option CType) → Pos → Types → Types → Result (Option TypeId) TypeFault → Type 0
+RulesOption = Rules type_or_none OptionIn
 
 -- a rule that gives a type
 abbrev pub RulesType : Ruled CType → Pos → Types → Types → Result TypeId TypeFault → Type 0

@@ -1,5 +1,5 @@
--- What a typing rule says of the typed parts of a node: what the node is, or the number of the constraint that it breaks.
--- A rule knows no scope, no order of the parts, and no place.
+-- What a typing rule says of the typed parts of a node: what the node is, or the number of the constraint that it
+-- breaks. A rule knows no scope, no order of the parts, and no place.
 use Rattle.std.specs.Prelude.{◌≡◌, ◌⊎◌, ℕ, ◌<◌, Bool, false, cond, List, [], ◌∷◌}
 
 pub data Ruled (A : Type 0) : Type 0 where

@@ -8,3 +8,6 @@ pub mod scopes;
 pub use binding::{Binding, DeclaredFunction, DeclaredObject, Linkage, Standing, TagState};
 pub use law::{growth_law, rule_law, view_law};
 pub use scopes::Scopes;
+
+#[cfg(test)]
+mod tests;

@@ -8,7 +8,7 @@ use Rattle.c_types.specs.Structures.{Structure}
 use Rattle.c_core.specs.declared.fault.ConstFault.{ConstFault}
 use Rattle.c_core.specs.declared.fault.ConstFault.TheVariants.{NotConstant, Value}
 use Rattle.c_scopes.specs.Ruled.{Ruled, Breaks, Demand, ruled}
-use Rattle.c_type_rules.specs.Qualified.{is_function}
+use Rattle.c_conversions.specs.Versions.{is_function}
 
 -- above 0, and a `size_t`, as each constant above 0 is (6.7.6.2p1)
 abbrev pub is_length : ℤ → Bool
@@ -25,7 +25,7 @@ length_rule (Err Value) = Breaks 42
 
 -- an array whose length was left out (6.2.5p22)
 abbrev pub is_without_length : CType → Bool
-is_without_length (Array None) = true
+is_without_length (Array of None) = true
 is_without_length other = false
 
 -- a complete object type (6.2.5p1)

@@ -2,12 +2,11 @@
 use Rattle.std.specs.Prelude.{ℤ, pos, negsuc, ◌+ℤ◌, Bool, false, not, ◌&&◌, int_le, is_some, List, [], ◌∷◌}
 use Rattle.std.specs.Prelude.{Option, Some, None, Result, Ok, Err}
 use Rattle.c_types.specs.declared.basic.Basic.TheVariants.{Int}
-use Rattle.c_types.specs.CType.{CType}
 use Rattle.c_core.specs.declared.fault.ConstFault.{ConstFault}
 use Rattle.c_core.specs.declared.fault.ConstFault.TheVariants.{NotConstant, Value}
 use Rattle.c_scopes.specs.Named.{Named, ConstantOf}
 use Rattle.c_scopes.specs.Ruled.{Ruled, Fits, Breaks, Demand, ruled}
-use Rattle.c_type_rules.specs.Words.{basic_type}
+use Rattle.c_conversions.specs.Kinds.{basic_type}
 
 -- The expression of a value: in a constant expression no evaluated operation is undefined (6.6p4). What is no integer
 -- constant expression is refused at the enumerator's name.

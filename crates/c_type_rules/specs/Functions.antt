@@ -1,18 +1,9 @@
 -- Functions and their parameters (6.7.6.3).
-use Rattle.std.specs.Prelude.{Bool, true, false, not, ◌&&◌, ◌||◌, List, [], ◌∷◌}
-use Rattle.c_types.specs.declared.basic.Basic.TheVariants.{Void}
-use Rattle.c_types.specs.CType.{CType, CTypes, Nil, Cons, Plain, Array, Bare, BasicType, Function, no_quals}
-use Rattle.c_scopes.specs.Ruled.{Ruled, Fits, Demand, ruled}
-use Rattle.c_type_rules.specs.Qualified.{is_function, pointer_to}
-
-abbrev pub is_array : CType → Bool
-is_array (Array of len) = true
-is_array (Plain bare quals) = false
-
--- `void`, whatever its qualifiers are
-abbrev pub is_void : CType → Bool
-is_void (Plain (BasicType Void) quals) = true
-is_void other = false
+use Rattle.std.specs.Prelude.{Bool, not, ◌&&◌, ◌||◌, List, [], ◌∷◌}
+use Rattle.c_types.specs.CType.{CType, CTypes, Plain, Array, Function, no_quals}
+use Rattle.c_scopes.specs.Ruled.{Ruled, Demand, ruled}
+use Rattle.c_conversions.specs.Kinds.{pointer_to}
+use Rattle.c_conversions.specs.Versions.{is_array, is_function, is_void}
 
 -- an array parameter is a pointer to the elements, a function a pointer to it (6.7.6.3p7, p8)
 abbrev pub adjusted : CType → CType

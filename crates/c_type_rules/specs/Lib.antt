@@ -3,8 +3,9 @@ pub mod Words
 pub mod Qualified
 pub mod Arrays
 pub mod Functions
-pub mod Storage
+pub mod Settings
 pub mod Tags
 pub mod Enumerators
 pub mod Members
+pub mod Completing
 pub mod Laws

@@ -1,7 +1,7 @@
 -- Which type a tag stands for, by what it stands for so far (6.7.2.3).
-use Rattle.std.specs.Prelude.{ℕ, ◌+◌, Bool, true, false, not, ◌&&◌, ◌==◌, List, [], ◌∷◌, ◌++◌, length, is_some}
+use Rattle.std.specs.Prelude.{ℕ, Bool, true, false, not, ◌&&◌, List, [], ◌∷◌, length, is_some}
 use Rattle.std.specs.Prelude.{Option, Some, None}
-use Rattle.c_types.specs.CType.{CType, Plain, Bare, Compound, Enumerated, no_quals}
+use Rattle.c_types.specs.CType.{CType, Plain, Compound, Enumerated, no_quals}
 use Rattle.c_types.specs.Structures.{Structure, structure_at}
 use Rattle.c_scopes.specs.declared.binding.TagState.{TagState}
 use Rattle.c_scopes.specs.declared.binding.TagState.TheVariants as state

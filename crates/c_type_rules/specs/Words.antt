@@ -2,10 +2,11 @@
 use Rattle.std.specs.Prelude.{List, [], ◌∷◌, Option, Some, None}
 use Rattle.c_types.specs.declared.basic.Basic.{Basic}
 use Rattle.c_types.specs.declared.basic.Basic.TheVariants as b
-use Rattle.c_types.specs.CType.{CType, Plain, BasicType, no_quals}
+use Rattle.c_types.specs.CType.{CType}
 use Rattle.c_syntax.specs.declared.specifier.BasicWord.{BasicWord}
 use Rattle.c_syntax.specs.declared.specifier.BasicWord.TheVariants as word
 use Rattle.c_scopes.specs.Ruled.{Ruled, Fits, Breaks}
+use Rattle.c_conversions.specs.Kinds.{basic_type}
 use Rattle.c_type_rules.specs.declared.words.Sign.{Sign}
 use Rattle.c_type_rules.specs.declared.words.Sign.TheVariants.{Signed, Unsigned}
 use Rattle.c_type_rules.specs.declared.words.Width.{Width}
@@ -45,10 +46,13 @@ with_word words word.Signed = with_sign words.sign Signed words
 with_word words word.Unsigned = with_sign words.sign Unsigned words
 with_word words word.Bool = with_base words.base base.Bool words
 
+abbrev pub and_word : Option TypeWords → BasicWord → Option TypeWords
+and_word None word = None
+and_word (Some words) word = with_word words word
+
 abbrev pub words_from : Option TypeWords → List BasicWord → Option TypeWords
-words_from None more = None
-words_from (Some words) [] = Some words
-words_from (Some words) (first ∷ more) = words_from (with_word words first) more
+words_from words [] = words
+words_from words (first ∷ more) = words_from (and_word words first) more
 
 -- the integer type of a width, which may stand with `int` or without
 abbrev pub integer_of : Option Sign → Option Width → Basic
@@ -91,8 +95,8 @@ abbrev pub named_by : Option TypeWords → Option Basic
 named_by None = None
 named_by (Some words) = basic_of words words.base
 
-abbrev pub basic_type : Basic → CType
-basic_type basic = Plain (BasicType basic) no_quals
+abbrev pub basic_in : List BasicWord → Option Basic
+basic_in words = named_by (words_from (Some no_words) words)
 
 abbrev pub basic_named : Option Basic → Ruled CType
 basic_named None = Breaks 4
@@ -100,4 +104,4 @@ basic_named (Some basic) = Fits (basic_type basic)
 
 -- the type of a list of words of basic types
 abbrev pub basic_rule : List BasicWord → Ruled CType
-basic_rule words = basic_named (named_by (words_from (Some no_words) words))
+basic_rule words = basic_named (basic_in words)

@@ -1,3 +1,4 @@
+-- The scopes that are left.
 use Rattle.std.proofs.Common.{◌≡◌, length}
 use Rattle.c_scopes.specs.Scopes.{found}
 use Rattle.c_scopes.specs.Inner.{outwards}
