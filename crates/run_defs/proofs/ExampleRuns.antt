@@ -1,6 +1,6 @@
 -- A small program and its library calls, for examples.
-use Rattle.std.specs.Prelude.{ℕ, zero, suc, ◌+◌, ◌++◌, true, false, pos as positive, List, [], ◌∷◌, map, codes, slice_get}
-use Rattle.std.specs.Prelude.{Option, None}
+use Rattle.std.specs.Prelude.{ℕ, zero, suc, ◌+◌, ◌++◌, true, false, pos as positive, List, [], ◌∷◌, map, codes}
+use Rattle.std.specs.Prelude.{slice_get, Option, None}
 use Rattle.critical_table.specs.declared.pos.Pos.{Pos}
 use Rattle.object_store.specs.declared.mark.Mark.TheVariants.{Literal}
 use Rattle.object_store.specs.declared.pointer.Pointer.{Pointer}
@@ -14,9 +14,10 @@ use Rattle.lib_defs.specs.Sample.{sample}
 use Rattle.run_defs.specs.declared.outcome.Outcome.TheVariants.{Exited}
 use Rattle.run_defs.specs.Lines.{event_text}
 use Rattle.run_defs.specs.State.{State}
-use Rattle.run_defs.specs.Evaluation.{Evaluation, Gives, Stops, whole, finished}
+use Rattle.run_defs.specs.Evaluation.{Evaluation, Gives, Stops, bind, whole, finished}
 use Rattle.run_defs.specs.Functions.{Function, OfLibrary, OfUnit, Environment}
 use Rattle.run_defs.specs.Calls.{Enter, library_call}
+use Rattle.run_defs.specs.Judge.{Verdict, Lawful, verdict}
 use Rattle.run_defs.specs.Starts.{StaticObject, start_state, statics_placed}
 
 abbrev pub row : ℕ → Row
@@ -72,7 +73,8 @@ abbrev pub empty_input : Input
 empty_input = record { bytes = []; ending = AtEnd }
 
 abbrev pub begin_with : ℕ → Evaluation (Unit {0})
-begin_with ticks = statics_placed statics (start_state (record { ticks = ticks; bytes = 1000 }) empty_input abort_handler)
+begin_with ticks = statics_placed statics
+    (start_state (record { ticks = ticks; bytes = 1000 }) empty_input abort_handler)
 
 abbrev pub at_two : Pos
 at_two = record { line = 2; column = 7 }
@@ -97,10 +99,36 @@ set_handler p = calls (λ f args at s. Gives Nothing s) 20 (record { value = Ptr
 abbrev pub returns : Enter
 returns f args at s = Gives Nothing s
 
--- the lines of a journal, with the end of a run that gives a status
-abbrev pub lines : State → List (List ℕ)
-lines s = map event_text s.journal
+-- a run by its lines, with what the judge says of them
+pub record Report : Type 0 where
+  pub lines : List (List ℕ)
+  pub verdict : Verdict
 
-abbrev pub ended_lines : {A : Type 0} → Evaluation A → List (List ℕ)
-ended_lines (Gives value s) = lines (finished (Exited 0) s)
-ended_lines (Stops outcome s) = lines (finished outcome s)
+abbrev pub report_of : State → Report
+report_of s = record { lines = map event_text s.journal; verdict = verdict s.journal }
+
+-- a run that gives a value exits with 0
+abbrev pub report : {A : Type 0} → Evaluation A → Report
+report (Gives value s) = report_of (finished (Exited 0) s)
+report (Stops outcome s) = report_of (finished outcome s)
+
+-- the message object, and the static objects with their marks
+abbrev pub started : List (List ℕ)
+started =
+    codes "made 2 131 s"
+    ∷ codes "seal 2 0 131 literal"
+    ∷ codes "made 4 8 s"
+    ∷ codes "made 6 5 s"
+    ∷ codes "seal 6 0 5 literal" ∷ []
+
+-- these lines behind the start, and lawful
+abbrev pub shows : List (List ℕ) → Report
+shows lines = record { lines = started ++ lines; verdict = Lawful }
+
+-- a handler is set, and then this is done
+abbrev pub handled_by : ℕ → Pointer → (State → Evaluation Value) → Report
+handled_by ticks handler next =
+    report (bind (begin_with ticks) (λ u s. bind (set_handler handler s) (λ v s1. next s1)))
+
+abbrev pub done : ℕ → (State → Evaluation Value) → Report
+done ticks next = report (bind (begin_with ticks) (λ u s. next s))

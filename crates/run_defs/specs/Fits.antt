@@ -22,7 +22,7 @@ use Rattle.lib_defs.specs.declared.value.Value.{Value}
 use Rattle.lib_defs.specs.Units.{rsize_max}
 use Rattle.lib_defs.specs.Reply.{null}
 use Rattle.lib_defs.specs.Shown.{argument_shown}
-use Rattle.lib_defs.specs.Laws.{release_case}
+use Rattle.lib_defs.specs.Allocation.{release_case}
 use Rattle.run_defs.specs.declared.outcome.End.{End}
 use Rattle.run_defs.specs.declared.outcome.End.TheVariants.{Trapped, Undefined}
 use Rattle.run_defs.specs.State.{has_range}

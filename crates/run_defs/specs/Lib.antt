@@ -12,3 +12,5 @@ pub mod Starts
 pub mod Lines
 pub mod Fits
 pub mod Replay
+pub mod Judge
+pub mod Kept

@@ -7,6 +7,7 @@
 pub mod attempt;
 pub mod event;
 pub mod journal;
+pub mod laws;
 pub mod library_call;
 pub mod line_text;
 pub mod outcome;
@@ -17,8 +18,12 @@ pub mod values;
 pub use attempt::Attempt;
 pub use event::Event;
 pub use journal::{Journal, LineJournal, NoJournal};
+pub use laws::{call_law, judge_law};
 pub use library_call::{LibraryCall, Suspended, Waits};
 pub use line_text::event_line;
 pub use outcome::{End, Outcome};
 pub use seal::Seal;
 pub use values::Values;
+
+#[cfg(test)]
+mod tests;
