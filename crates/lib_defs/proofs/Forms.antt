@@ -71,10 +71,10 @@ module _ (P : Value → Type 0) where
   gives_rule r s failure success = gives_by r s (refusal r.constraints 1 s) failure success
 
 -- small numbers are values of int and of size_t
-int_given : (n : ℕ) → n ≤ 2147483647 → IsGiven int (Num (pos n))
+pub int_given : (n : ℕ) → n ≤ 2147483647 → IsGiven int (Num (pos n))
 int_given n le = record { least = omega (arith, ints); greatest = omega (arith, ints) }
 
-size_given : (n : ℕ) → n ≤ 18446744073709551615 → IsGiven size_t (Num (pos n))
+pub size_given : (n : ℕ) → n ≤ 18446744073709551615 → IsGiven size_t (Num (pos n))
 size_given n le = record { least = omega (arith, ints); greatest = omega (arith, ints) }
 
 errno_given : (class : Violation) → IsGiven int (errno_value class)
@@ -201,9 +201,9 @@ error_length_gives s errnum = let short = error_short errnum in
     size_given (length (error_text errnum)) (omega (arith, short))
 
 -- the second argument, where it is a size
-size_value : (k : ArgKind) (v : Value) → k ≡ kind.ULong → IsGiven (given_by k) v
+size_value : (k : ArgKind) (v : Value) → given_by k ≡ size_t → IsGiven (given_by k) v
     → count (v ∷ []) 0 ≤ 18446744073709551615
-size_value k v e h = at_value v (subst (λ k. IsGiven (given_by k) v) e h)
+size_value k v e h = at_value v (subst (λ given. IsGiven given v) e h)
   where
     at_value : (v : Value) → IsGiven size_t v → count (v ∷ []) 0 ≤ 18446744073709551615
     at_value (Num (pos n)) h = let g = h.greatest in omega (arith, ints, g)
