@@ -15,8 +15,8 @@ pub fn call_law()
     ensures { CallsAreLawful }
 {}
 
-/// The start of a run and the steps of a unit keep a journal lawful: loads and stores, objects that are made, marked and
-/// die, calls that are entered and left.
+/// The start of a run and the steps of a unit keep a journal lawful: loads and stores, objects that are made, marked
+/// and die, calls that are entered and left.
 pub fn step_law()
     ensures { (e : _) → RunsKeep e }
 {}
