@@ -50,22 +50,21 @@ pub record IsReply (reply : Reply) (before : World) (now : Left) (new : Sight) (
   pub input : now.input ≡ reply.streams.input
   pub wrote : new.wrote reply.streams.output reply.streams.err
 
--- written is what was there before with a front of what is due
-pub record IsFront (before written due : List ℕ) : Type 0 where
-  pub gained : List ℕ
-  pub begins : written ≡ before ++ gained
+-- written is a front of what is due
+pub record IsFront (written due : List ℕ) : Type 0 where
   pub rest : List ℕ
   pub front : due ≡ written ++ rest
 
--- A write fails: it may be that output and error output were cut short, and nothing else is changed.
+-- A write fails: it may be that output and error output were cut short, in what was held back by earlier calls too. No
+-- more is changed.
 pub record IsCut (reply : Reply) (before : World) (now : Left) (new : Sight) : Type 0 where
   pub store : now.store ≡ before.store
   pub handler : now.handler ≡ before.handler
   pub output : List ℕ
   pub err : List ℕ
   pub wrote : new.wrote output err
-  pub front : IsFront before.streams.output output reply.streams.output
-  pub told : IsFront before.streams.err err reply.streams.err
+  pub front : IsFront output reply.streams.output
+  pub told : IsFront err reply.streams.err
 
 abbrev pub AnswersAt : Bool → Reply → World → Left → Sight → LibStep → Type 0
 AnswersAt true reply before now new answer = IsCut reply before now new
