@@ -7,3 +7,6 @@ pub mod kind;
 pub mod operand;
 pub mod value;
 pub mod versions;
+
+#[cfg(test)]
+mod tests;
