@@ -5,8 +5,7 @@ pub mod content;
 pub mod converting;
 pub mod kind;
 pub mod operand;
-pub mod value;
-pub mod versions;
-
 #[cfg(test)]
 mod tests;
+pub mod value;
+pub mod versions;
