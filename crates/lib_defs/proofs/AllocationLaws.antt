@@ -34,7 +34,7 @@ use Rattle.lib_defs.specs.Profile.{plain_did, plain_or}
 use Rattle.lib_defs.specs.Laws.{first_pointer, HasForm, IfReleased, RowStopFits}
 use Rattle.lib_defs.specs.Laws.{AreReached}
 use Rattle.lib_defs.proofs.AnnexRows.{has_form}
-use Rattle.lib_defs.proofs.PlainCalls.{Fits, Undecided, answer_fits}
+use Rattle.lib_defs.proofs.PlainCalls.{Fits, FitsAny, Undecided, answer_fits}
 use Rattle.lib_defs.proofs.NewObjects.{new_reached}
 
 -- an object that can be made
@@ -72,7 +72,8 @@ module _ (row : Row) (args : List Arg) (w : World) (keeps : Rest → Bool) where
       → (b ≡ true → (1 ≤ size) × (size ≤ rsize_max)) → (stores : List Patch)
       → (1 ≤ size → AreReached (with_new w.store size Allocated) stores) → length stores ≤ 4 → (released : Option ℕ)
       → IfReleased w.store args released → Fits row args w keeps (reply_with w (make_if b w.store size stores released))
-  make_fits passes form false size sizes stores reached few released fits = answer_fits row args w keeps passes (Ptr null) (form null)
+  make_fits passes form false size sizes stores reached few released fits =
+      answer_fits row args w keeps passes (Ptr null) (form null)
   make_fits passes form true size sizes stores reached few released fits =
       let known = sizes refl in
       record {
@@ -120,7 +121,7 @@ module _ (row : Row) (args : List Arg) (w : World) (keeps : Rest → Bool) where
       next (record { live = h.1; allocated = grind (arith, common_steps, h.0); first = refl })
 
   pub realloc_fits : name_at row ≡ Some n.Realloc
-      → Fits row args w keeps (plain_or (plain_did n.Realloc (values_of args) w.store) n.Realloc args w)
+      → FitsAny row args w keeps (plain_or (plain_did n.Realloc (values_of args) w.store) n.Realloc args w)
   realloc_fits named =
       let s : Storage = w.store in
       let p : Pointer = first_pointer args in
@@ -136,7 +137,8 @@ module _ (row : Row) (args : List Arg) (w : World) (keeps : Rest → Bool) where
       (λ some. (new_reached s size (length (bytes_at s p size)) some (length-bytes_at s p size), tt)) (omega arith)
       (Some p.object) released)
 
-  pub free_fits : name_at row ≡ Some n.Free → Fits row args w keeps (plain_or (plain_did n.Free (values_of args) w.store) n.Free args w)
+  pub free_fits : name_at row ≡ Some n.Free
+      → FitsAny row args w keeps (plain_or (plain_did n.Free (values_of args) w.store) n.Free args w)
   free_fits named =
       let form : HasForm row args Nothing = has_form row args n.Free named Nothing (λ fit. tt) in
       release_fits n.Free named

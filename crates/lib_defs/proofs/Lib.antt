@@ -22,6 +22,9 @@ pub mod PlainMemoryLaws
 pub mod PlainTextLaws
 pub mod Flows
 pub mod NewObjects
+pub mod CharacterLemmas
+pub mod WholeStrings
+pub mod FormatLemmas
 pub mod PrintLaws
 pub mod PlainCalls
 pub mod AllocationLaws
@@ -35,5 +38,8 @@ pub mod TextExamples
 pub mod TokenExamples
 pub mod OtherExamples
 pub mod FactExamples
+pub mod PlainExamples
+pub mod AllocationExamples
 pub mod PrintExamples
+pub mod ProfileExamples
 pub mod RowNames

@@ -1,5 +1,5 @@
 -- Rows that decide nothing by the values of a line answer their calls.
-use Rattle.std.proofs.Common.{◌≡◌, Bool, true, List}
+use Rattle.std.proofs.Common.{◌≡◌, Bool, true, List, Option, Some, None}
 use Rattle.std.proofs.Common.{Some, None, arith}
 use Rattle.lib_defs.specs.declared.row.Row.{Row}
 use Rattle.lib_defs.specs.declared.row_name.RowName.{RowName}
@@ -8,20 +8,24 @@ use Rattle.lib_defs.specs.declared.value.Arg.{Arg}
 use Rattle.lib_defs.specs.declared.value.Value.{Value}
 use Rattle.lib_defs.specs.RowNumbers.{name_at}
 use Rattle.lib_defs.specs.Prototypes.{IsGiven, prototype}
-use Rattle.lib_defs.specs.Reply.{no_change, Stop, FailsReach, FailsValue, FailsArgument, IsUndefined, Ends}
+use Rattle.lib_defs.specs.Reply.{no_change}
 use Rattle.lib_defs.specs.Reply.{Did, Done, Broken, Asks, Fails}
 use Rattle.lib_defs.specs.Shown.{none_fails, line_decisions}
-use Rattle.lib_defs.specs.World.{World, Streams, Reply}
+use Rattle.lib_defs.specs.World.{World, Reply}
 use Rattle.lib_defs.specs.StreamRows.{reply_with}
-use Rattle.lib_defs.specs.Laws.{shown_at, HasForm, DoneFits, RowStopFits, CallFits}
-use Rattle.lib_defs.specs.RuleLaws.{RuleStop}
+use Rattle.lib_defs.specs.Laws.{shown_at, HasForm, DoneFits, CallFits}
 use Rattle.lib_defs.proofs.AnnexRows.{has_form}
+use Rattle.lib_defs.proofs.RowsFit.{stop_fits}
 use Rattle.lib_defs.proofs.PlainFits.{PlainFits}
 
 module _ (row : Row) (args : List Arg) (w : World) (keeps : Rest → Bool) where
   -- the answer fits its call
   abbrev pub Fits : Reply → Type 0
   Fits reply = CallFits keeps row args w reply.streams reply.did
+
+  abbrev pub FitsAny : Option Reply → Type 0
+  FitsAny None = Unit {0}
+  FitsAny (Some reply) = Fits reply
 
   -- a row of no table of constraints decides nothing by its values
   abbrev pub Undecided : Type 0
@@ -30,13 +34,6 @@ module _ (row : Row) (args : List Arg) (w : World) (keeps : Rest → Bool) where
   pub answer_fits : Undecided → (value : Value) → HasForm row args value → DoneFits row args w no_change None value
   answer_fits passes value form =
       record { passes = passes; made = tt; reached = tt; few = omega arith; released = tt; set = tt; form = form }
-
-  pub stop_fits : (streams : Streams) (stop : Stop) → RuleStop w.store stop → RowStopFits row args w streams stop
-  stop_fits streams (FailsReach case place len align by) h = h
-  stop_fits streams (FailsValue case value) h = absurd h
-  stop_fits streams (FailsArgument number) h = absurd h
-  stop_fits streams (IsUndefined code) h = h
-  stop_fits streams (Ends ended) h = absurd h
 
   -- a row without constraints that makes and ends no object
   pub plain_fits : (name : RowName) → name_at row ≡ Some name → Undecided → (d : Did)
@@ -52,4 +49,4 @@ module _ (row : Row) (args : List Arg) (w : World) (keeps : Rest → Bool) where
   }
   plain_fits name named passes (Broken k class action value) h = absurd h
   plain_fits name named passes (Asks function first second third rest) h = absurd h
-  plain_fits name named passes (Fails stop) h = stop_fits w.streams stop h
+  plain_fits name named passes (Fails stop) h = stop_fits row args w w.streams stop h

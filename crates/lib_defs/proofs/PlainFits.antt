@@ -106,7 +106,7 @@ length-equal_units w (suc n) number =
     length-append (map Some (number_bytes w number)) (equal_units w n number) ∙ omega (arith, unit, rest, next)
 
 -- A string ends within its object.
-some_more : (w k : ℕ) → 0 < w → k ≤ w * k
+pub some_more : (w k : ℕ) → 0 < w → k ≤ w * k
 some_more zero k some = absurd (omega arith)
 some_more (suc w) k some = let e : suc w * k ≡ k + w * k = grind arith in omega (arith, e)
 

@@ -20,7 +20,9 @@ use Rattle.lib_defs.specs.PlainMemory.{memory_order_did, memory_find_did}
 use Rattle.lib_defs.specs.Laws.{IsSized}
 use Rattle.lib_defs.proofs.Parts.{size_exact}
 use Rattle.lib_defs.proofs.RuleLemmas.{span_fits, bytes_long, stores_reached}
-use Rattle.lib_defs.proofs.PlainFits.{PlainFits, Sees, sees_fits, sees_look, sees_known, fits_reach, fits_look, fits_unless}
+use Rattle.lib_defs.proofs.Forms.{int_given}
+use Rattle.lib_defs.proofs.PlainFits.{PlainFits, Sees, sees_fits, sees_look, sees_known, fits_reach, fits_look}
+use Rattle.lib_defs.proofs.PlainFits.{fits_unless}
 use Rattle.lib_defs.proofs.PlainFits.{fits_stores, fits_answer, length-equal_units}
 
 -- the values of functions that give a pointer, and of comparisons
@@ -32,10 +34,10 @@ AnyInt n = IsGiven int (Num n)
 
 pub order_given : (less : Bool) → AnyInt (order less)
 order_given true = record { least = omega (arith, ints); greatest = omega (arith, ints) }
-order_given false = record { least = omega (arith, ints); greatest = omega (arith, ints) }
+order_given false = int_given 1 (omega arith)
 
 pub equal_given : AnyInt (pos 0)
-equal_given = record { least = omega (arith, ints); greatest = omega (arith, ints) }
+equal_given = int_given 0 (omega arith)
 
 module _ (s : Storage) where
   copies_reached : (w n : ℕ) (s1 s2 : Pointer) → reach s s2 (size w n) w TextRead ≡ None
@@ -87,7 +89,8 @@ module _ (s : Storage) where
       fits_reach (IsGiven int) s s1 (size 1 n) 1 TextRead _ (λ one.
       fits_reach (IsGiven int) s s2 (size 1 n) 1 TextRead _ (λ other.
       fits_look (IsGiven int) s AnyInt (byte_order (units 1 s s1 n) (units 1 s s2 n)) _
-      (order_sees (units 1 s s1 n) (units 1 s s2 n)) (λ answer e given. fits_answer (IsGiven int) s (Num answer) given)))
+      (order_sees (units 1 s s1 n) (units 1 s s2 n))
+      (λ answer e given. fits_answer (IsGiven int) s (Num answer) given)))
 
   pub memory_find_fits : (p : Pointer) (c n : ℕ) → PlainFits AnyPointer s (memory_find_did s p c n)
   memory_find_fits p c n =

@@ -2,7 +2,6 @@
 use Rattle.std.proofs.Common.{◌≡◌, ℕ, zero, suc, ◌+◌, ◌-◌, ◌*◌, ◌==◌, ◌<◌, ◌≤◌, Bool, true, false, cond, List, [], ◌∷◌}
 use Rattle.std.proofs.Common.{length, replicate, Option, Some, None, refl, sym, subst, arith}
 use Rattle.std.specs.Prelude.{ℤ, pos, int_lt}
-use Rattle.std.proofs.lemmas.Int.{ints}
 use Rattle.std.proofs.lemmas.List.{length-replicate}
 use Rattle.object_store.specs.declared.by.By.TheVariants.{TextRead, TextWrite}
 use Rattle.object_store.specs.declared.pointer.Pointer.{Pointer}
@@ -22,7 +21,7 @@ use Rattle.lib_defs.specs.Rules.{look_then}
 use Rattle.lib_defs.specs.Prototypes.{IsGiven, int, size_t}
 use Rattle.lib_defs.specs.PlainMemory.{see_known, order}
 use Rattle.lib_defs.specs.PlainTexts.{length_did, text_copy_did, append_did, part_copy_did, part_append_did, see_unit}
-use Rattle.lib_defs.specs.PlainTexts.{or_later, text_order, part_order_did, found_did, text_find_did}
+use Rattle.lib_defs.specs.PlainTexts.{or_later, order_from, text_order, part_order_did, found_did, text_find_did}
 use Rattle.lib_defs.specs.Laws.{IsSized, AreReached}
 use Rattle.lib_defs.proofs.Parts.{part_reached, front_reached, size_exact}
 use Rattle.lib_defs.proofs.RuleLemmas.{bytes_long, stores_reached}
@@ -30,7 +29,9 @@ use Rattle.lib_defs.proofs.RuleSuccess.{length_of, size_within}
 use Rattle.lib_defs.proofs.WholeTexts.{span_reached, span_within}
 use Rattle.lib_defs.proofs.TextLaws.{text_fits}
 use Rattle.lib_defs.proofs.PartLaws.{units_long, ended_reached}
-use Rattle.lib_defs.proofs.PlainFits.{PlainFits, Sees, sees_fits, sees_look, sees_known, sees_range, fits_reach, fits_look}
+use Rattle.lib_defs.proofs.Forms.{size_given}
+use Rattle.lib_defs.proofs.PlainFits.{PlainFits, Sees, sees_fits, sees_look, sees_known, sees_range, fits_reach}
+use Rattle.lib_defs.proofs.PlainFits.{fits_look}
 use Rattle.lib_defs.proofs.PlainFits.{fits_unless, fits_stores, fits_answer, string_short}
 use Rattle.lib_defs.proofs.PlainMemoryLaws.{AnyPointer, AnyInt, order_given, equal_given}
 
@@ -49,12 +50,12 @@ module _ (s : Storage) (sized : IsSized s) where
   with_string : (P : Value → Type 0) (w : ℕ) → 0 < w → (p : Pointer) (go : ℕ → Did)
       → ((k : ℕ) → text w s p (rsize_max + 1) ≡ Length k → k < rsize_max + 1 → PlainFits P s (go k))
       → PlainFits P s (look_then (see_string w s p) go)
-  with_string P w some p go next = with_text P w p (rsize_max + 1) go (λ k e. next k e (string_short w some s p k sized e))
+  with_string P w some p go next =
+      with_text P w p (rsize_max + 1) go (λ k e. next k e (string_short w some s p k sized e))
 
   pub length_fits : (w : ℕ) → 0 < w → (p : Pointer) → PlainFits (IsGiven size_t) s (length_did w s p)
   length_fits w some p = with_string (IsGiven size_t) w some p _ (λ k e less.
-      fits_answer (IsGiven size_t) s (Num (pos k))
-      (record { least = omega (arith, ints); greatest = omega (arith, ints, less) }))
+      fits_answer (IsGiven size_t) s (Num (pos k)) (size_given k (omega (arith, less))))
 
   -- the units of a string with its null, where their destination is reached
   string_reached : (w : ℕ) → 0 < w → (to from : Pointer) (k : ℕ) → text w s from (rsize_max + 1) ≡ Length k
@@ -115,7 +116,8 @@ module _ (s : Storage) (sized : IsSized s) where
       fits_unless AnyPointer s _ _
       (fits_reach AnyPointer s (unit_place 1 s1 j) (size 1 (k + 1)) 1 TextWrite _ (λ write.
       fits_stores AnyPointer s (ended_units 1 s (unit_place 1 s1 j) s2 k) (Ptr s1)
-      (ended_reached 1 s (unit_place 1 s1 j) s2 k sized (units_long 1 s s2 n k (omega arith) e) write) (omega arith) tt))))
+      (ended_reached 1 s (unit_place 1 s1 j) s2 k sized (units_long 1 s s2 n k (omega arith) e) write) (omega arith)
+      tt))))
 
   -- comparisons
   unit_sees : (w : ℕ) (p : Pointer) → Sees Anything s (see_unit w s p)
@@ -128,19 +130,19 @@ module _ (s : Storage) (sized : IsSized s) where
   decided_sees true false z given later h = h
   decided_sees false last z given later h = given
 
-  text_order_sees : (value : ℕ → ℤ) (w : ℕ) (p q : Pointer) (most : ℕ)
-      → Sees AnyInt s (text_order value w s p q most)
-  text_order_sees value w p q zero = equal_given
-  text_order_sees value w p q (suc most) =
-      sees_look Anything AnyInt s (see_unit w s p) _ (unit_sees w p) (λ a u.
-      sees_look Anything AnyInt s (see_unit w s q) _ (unit_sees w q) (λ b v.
+  order_sees : (value : ℕ → ℤ) (w : ℕ) (p q : Pointer) (k most : ℕ)
+      → Sees AnyInt s (order_from value w s p q k most)
+  order_sees value w p q k zero = equal_given
+  order_sees value w p q k (suc most) =
+      sees_look Anything AnyInt s (see_unit w s (unit_place w p k)) _ (unit_sees w (unit_place w p k)) (λ a u.
+      sees_look Anything AnyInt s (see_unit w s (unit_place w q k)) _ (unit_sees w (unit_place w q k)) (λ b v.
       decided_sees (a == b) (a == 0) (order (int_lt (value a) (value b))) (order_given (int_lt (value a) (value b))) _
-      (text_order_sees value w (unit_place w p 1) (unit_place w q 1) most)))
+      (order_sees value w p q (suc k) most)))
 
   pub order_fits : (value : ℕ → ℤ) (w : ℕ) (s1 s2 : Pointer) (n : ℕ)
       → PlainFits (IsGiven int) s (part_order_did value w s s1 s2 n)
   order_fits value w s1 s2 n =
-      fits_look (IsGiven int) s AnyInt (text_order value w s s1 s2 n) _ (text_order_sees value w s1 s2 n)
+      fits_look (IsGiven int) s AnyInt (text_order value w s s1 s2 n) _ (order_sees value w s1 s2 0 n)
       (λ answer e given. fits_answer (IsGiven int) s (Num answer) given)
 
   found_fits : (p : Pointer) (found : Option ℕ) → PlainFits AnyPointer s (found_did p found)

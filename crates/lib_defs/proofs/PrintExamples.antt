@@ -62,7 +62,8 @@ unfolding reach_table digits
 print_each = refl
 
 -- signs: `+` acts on d and i
-print_signs : print (codes "%d %i %+d %+i %+u") (int (negsuc 41) ∷ int (pos 0) ∷ int (pos 0) ∷ int (negsuc 0) ∷ uint 7 ∷ [])
+print_signs : print (codes "%d %i %+d %+i %+u")
+    (int (negsuc 41) ∷ int (pos 0) ∷ int (pos 0) ∷ int (negsuc 0) ∷ uint 7 ∷ [])
     ≡ text (codes "-42 0 +0 -1 7")
 unfolding digits
 print_signs = refl
@@ -79,6 +80,16 @@ print_widths : print (codes "%5d|%05d|%-5d|%-05d|%2d")
     ≡ text (codes "  -42|-0042|-42  |-42  |12345")
 unfolding digits
 print_widths = refl
+
+print_plus : print (codes "%+05d|%+5d|%-+5d|%5c|") (int (pos 7) ∷ int (pos 7) ∷ int (pos 7) ∷ int (pos 120) ∷ [])
+    ≡ text (codes "+0007|   +7|+7   |    x|")
+unfolding digits
+print_plus = refl
+
+print_columns : print (codes "%3d numbers, sum %d\n") (int (pos 3) ∷ int (pos 6) ∷ [])
+    ≡ text (codes "  3 numbers, sum 6\n")
+unfolding digits
+print_columns = refl
 
 -- strings: precision and width
 print_strings : print (codes "%s|%.s|%.0s|%.5s|%5.1s|%-3.2s|")
@@ -106,7 +117,8 @@ print_none : print (codes "%.s") (string null ∷ []) ≡ text []
 print_none = refl
 
 -- hh and h convert the value first; the kind stays that of int
-print_short : print (codes "%hhd %hhu %hd %hu %hx") (int (pos 200) ∷ int (pos 511) ∷ int (pos 32768) ∷ uint 65537 ∷ int (pos 65535) ∷ [])
+print_short : print (codes "%hhd %hhu %hd %hu %hx")
+    (int (pos 200) ∷ int (pos 511) ∷ int (pos 32768) ∷ uint 65537 ∷ int (pos 65535) ∷ [])
     ≡ text (codes "-56 255 -32768 1 ffff")
 unfolding digits converted_to
 print_short = refl
@@ -158,7 +170,7 @@ print_no_character : print (codes "%c") (uint 2147483648 ∷ []) ≡ stops [] (F
 print_no_character = refl
 
 -- what is undefined, before its argument is looked at: another letter, a flag twice, 0 with c or s, a precision of a
--- number, a length of c or s, a width or precision above 4,095, a conversion that the null ends, %% with more
+-- number, a length modifier of c or s, a width or precision above 4,095, a conversion that the null ends, %% with more
 print_letter : print (codes "a%q") [] ≡ stops (codes "a") (IsUndefined U09)
 print_letter = refl
 

@@ -1,7 +1,6 @@
 -- The library of the profile keeps the laws.
-use Rattle.std.proofs.Common.{◌≡◌, ℕ, ◌+◌, ◌*◌, ◌<◌, Bool, false, List}
-use Rattle.std.proofs.Common.{drop, Option, Some, None, refl, arith}
-use Rattle.std.specs.Prelude.{ℤ}
+use Rattle.std.proofs.Common.{◌≡◌, ℕ, ◌+◌, ◌*◌, Bool, false, List, [], ◌∷◌, drop, Option, Some, None, refl}
+use Rattle.std.specs.Prelude.{ℤ, unwrap_or}
 use Rattle.object_store.specs.declared.pointer.Pointer.{Pointer}
 use Rattle.object_store.specs.Storage.{Storage}
 use Rattle.lib_defs.specs.declared.row.Row.{Row}
@@ -11,13 +10,13 @@ use Rattle.lib_defs.specs.declared.step.Rest.{Rest}
 use Rattle.lib_defs.specs.declared.value.Arg.{Arg}
 use Rattle.lib_defs.specs.declared.value.Value.{Value}
 use Rattle.lib_defs.specs.declared.value.Value.TheVariants.{Ptr, Nothing}
-use Rattle.lib_defs.specs.Units.{rsize_max, byte_unit, wide_unit, wide_number}
+use Rattle.lib_defs.specs.Units.{byte_narrow, wide_narrow, rsize_max, byte_unit, wide_unit, wide_number}
 use Rattle.lib_defs.specs.RowNumbers.{name_at}
 use Rattle.lib_defs.specs.Prototypes.{IsGiven, prototype}
 use Rattle.lib_defs.specs.Reply.{Did}
 use Rattle.lib_defs.specs.Rules.{Rule}
 use Rattle.lib_defs.specs.RowTable.{ptr, num, count, modulo_byte, rule_of}
-use Rattle.lib_defs.specs.World.{World, Flows}
+use Rattle.lib_defs.specs.World.{World, Reply, Flows}
 use Rattle.lib_defs.specs.Library.{values_of}
 use Rattle.lib_defs.specs.PlainMemory.{copy_did, move_did, fill_did, memory_order_did, memory_find_did}
 use Rattle.lib_defs.specs.PlainTexts.{length_did, text_copy_did, append_did, part_copy_did, part_append_did}
@@ -25,12 +24,13 @@ use Rattle.lib_defs.specs.PlainTexts.{text_order_did, part_order_did, text_find_
 use Rattle.lib_defs.specs.Characters.{string_at, whole}
 use Rattle.lib_defs.specs.Printed.{printed}
 use Rattle.lib_defs.specs.StreamRows.{reply_with}
-use Rattle.lib_defs.specs.Profile.{plain_did, other_reply, plain_or, rule_or, reply_of, profile}
+use Rattle.lib_defs.specs.Profile.{plain_did, other_reply, plain_or, rule_or, named_reply, HasAll, no_reply, reply_of}
+use Rattle.lib_defs.specs.Profile.{profile}
 use Rattle.lib_defs.specs.Laws.{IsWorld, HasForm}
 use Rattle.lib_defs.specs.Laws.{KeepsLaws}
 use Rattle.lib_defs.proofs.AnnexRows.{annex_row_fits, has_form}
 use Rattle.lib_defs.proofs.PlainFits.{PlainFits}
-use Rattle.lib_defs.proofs.PlainCalls.{Fits, Undecided, answer_fits, plain_fits}
+use Rattle.lib_defs.proofs.PlainCalls.{Fits, FitsAny, Undecided, answer_fits, plain_fits}
 use Rattle.lib_defs.proofs.PlainMemoryLaws.{copy_fits, move_fits, fill_fits, memory_order_fits, memory_find_fits}
 use Rattle.lib_defs.proofs.PlainTextLaws.{length_fits, text_copy_fits, append_fits, part_copy_fits, part_append_fits}
 use Rattle.lib_defs.proofs.PlainTextLaws.{order_fits, text_find_fits}
@@ -53,12 +53,6 @@ module _ (row : Row) (args : List Arg) (w : World) (keeps : Rest → Bool) where
   abbrev i : ℕ → ℤ
   i k = num (values_of args) k
 
-  narrow : 0 < 1
-  narrow = omega arith
-
-  wide : 0 < 4
-  wide = omega arith
-
   plain : (name : RowName) → name_at row ≡ Some name → Undecided row args w keeps → (d : Did)
       → PlainFits (IsGiven (prototype name).gives) s d → Fits row args w keeps (reply_with w d)
   plain name named passes d h = plain_fits row args w keeps name named passes d h
@@ -69,7 +63,7 @@ module _ (row : Row) (args : List Arg) (w : World) (keeps : Rest → Bool) where
 
   -- the functions of clause 7, handlers and streams
   other_fits : (name : RowName) → name_at row ≡ Some name → IsWorld w
-      → Fits row args w keeps (plain_or (plain_did name (values_of args) s) name args w)
+      → FitsAny row args w keeps (plain_or (plain_did name (values_of args) s) name args w)
   other_fits n.Memcpy named is =
       plain n.Memcpy named (rw named refl) (copy_did 1 s (p 0) (p 1) (c 2))
       (copy_fits s 1 (p 0) (p 1) (c 2))
@@ -93,22 +87,22 @@ module _ (row : Row) (args : List Arg) (w : World) (keeps : Rest → Bool) where
       (memory_find_fits s (p 0) (modulo_byte (i 1)) (c 2))
   other_fits n.Strlen named is =
       plain n.Strlen named (rw named refl) (length_did 1 s (p 0))
-      (length_fits s is.sized 1 narrow (p 0))
+      (length_fits s is.sized 1 byte_narrow.0 (p 0))
   other_fits n.Wcslen named is =
       plain n.Wcslen named (rw named refl) (length_did 4 s (p 0))
-      (length_fits s is.sized 4 wide (p 0))
+      (length_fits s is.sized 4 wide_narrow.0 (p 0))
   other_fits n.Strcpy named is =
       plain n.Strcpy named (rw named refl) (text_copy_did 1 s (p 0) (p 1))
-      (text_copy_fits s is.sized 1 narrow (p 0) (p 1))
+      (text_copy_fits s is.sized 1 byte_narrow.0 (p 0) (p 1))
   other_fits n.Wcscpy named is =
       plain n.Wcscpy named (rw named refl) (text_copy_did 4 s (p 0) (p 1))
-      (text_copy_fits s is.sized 4 wide (p 0) (p 1))
+      (text_copy_fits s is.sized 4 wide_narrow.0 (p 0) (p 1))
   other_fits n.Strcat named is =
       plain n.Strcat named (rw named refl) (append_did 1 s (p 0) (p 1))
-      (append_fits s is.sized 1 narrow (p 0) (p 1))
+      (append_fits s is.sized 1 byte_narrow.0 (p 0) (p 1))
   other_fits n.Wcscat named is =
       plain n.Wcscat named (rw named refl) (append_did 4 s (p 0) (p 1))
-      (append_fits s is.sized 4 wide (p 0) (p 1))
+      (append_fits s is.sized 4 wide_narrow.0 (p 0) (p 1))
   other_fits n.Strncpy named is =
       plain n.Strncpy named (rw named refl) (part_copy_did s (p 0) (p 1) (c 2))
       (part_copy_fits s is.sized (p 0) (p 1) (c 2))
@@ -157,39 +151,57 @@ module _ (row : Row) (args : List Arg) (w : World) (keeps : Rest → Bool) where
 
   named_fits : (name : RowName) (o : Option Rule) → name_at row ≡ Some name → rule_of name (values_of args) ≡ o
       → IsWorld w
-      → Fits row args w keeps (rule_or o name args w)
+      → FitsAny row args w keeps (rule_or o name args w)
   named_fits name (Some r) named e is = annex_row_fits row args name r named e w is.sized keeps w.streams
   named_fits name None named e is = other_fits name named is
 
-  pub name_fits : (name : RowName) → name_at row ≡ Some name → IsWorld w → Fits row args w keeps (reply_of (Some name) args w)
-  name_fits name named is = named_fits name (rule_of name (values_of args)) named refl is
+  any_fits : (o : Option Reply) → FitsAny row args w keeps o → Fits row args w keeps (unwrap_or o (no_reply w))
+  any_fits None h = tt
+  any_fits (Some reply) h = h
+
+  pub name_fits : (name : RowName) → name_at row ≡ Some name → IsWorld w
+      → Fits row args w keeps (reply_of (Some name) args w)
+  name_fits name named is =
+      any_fits (named_reply name args w) (named_fits name (rule_of name (values_of args)) named refl is)
 
 row_fits : (row : Row) (args : List Arg) (w : World) (keeps : Rest → Bool) (o : Option RowName) → name_at row ≡ o
     → IsWorld w → Fits row args w keeps (reply_of o args w)
 row_fits row args w keeps None e is = tt
 row_fits row args w keeps (Some name) e is = name_fits row args w keeps name e is
 
-other_flows : (name : RowName) (args : List Arg) (w : World) → Flows w.streams (other_reply name args w).streams
-other_flows n.Putchar args w = flows_writing w _
-other_flows n.Puts args w = puts_flows w _
-other_flows n.AbortHandlerS args w = abort_flows w _
-other_flows n.Getchar args w = get_flows w w.streams.input.bytes w.streams.input.ending refl refl
-other_flows n.Printf args w = flows_writing w _
-other_flows _ args w = flows_still w.streams
+abbrev FlowsAny : World → Option Reply → Type 0
+FlowsAny w None = Unit {0}
+FlowsAny w (Some reply) = Flows w.streams reply.streams
 
-plain_flows : (o : Option Did) (name : RowName) (args : List Arg) (w : World)
-    → Flows w.streams (plain_or o name args w).streams
+other_flows : (name : RowName) (args : List Arg) (w : World) → FlowsAny w (other_reply name args w)
+other_flows n.SetConstraintHandlerS args w = flows_still w.streams
+other_flows n.AbortHandlerS args w = abort_flows w (whole (string_at w.store (ptr (values_of args) 0)))
+other_flows n.IgnoreHandlerS args w = flows_still w.streams
+other_flows n.Exit args w = flows_still w.streams
+other_flows n.Abort args w = flows_still w.streams
+other_flows n.Putchar args w = flows_writing w (modulo_byte (num (values_of args) 0) ∷ [])
+other_flows n.Puts args w = puts_flows w (whole (string_at w.store (ptr (values_of args) 0)))
+other_flows n.Getchar args w = get_flows w w.streams.input.bytes w.streams.input.ending refl refl
+other_flows n.Printf args w =
+    flows_writing w (printed w.store (string_at w.store (ptr (values_of args) 0)) (drop 1 args)).list
+other_flows _ args w = tt
+
+plain_flows : (o : Option Did) (name : RowName) (args : List Arg) (w : World) → FlowsAny w (plain_or o name args w)
 plain_flows (Some d) name args w = flows_still w.streams
 plain_flows None name args w = other_flows name args w
 
-named_flows : (o : Option Rule) (name : RowName) (args : List Arg) (w : World)
-    → Flows w.streams (rule_or o name args w).streams
+named_flows : (o : Option Rule) (name : RowName) (args : List Arg) (w : World) → FlowsAny w (rule_or o name args w)
 named_flows (Some r) name args w = flows_still w.streams
 named_flows None name args w = plain_flows (plain_did name (values_of args) w.store) name args w
 
+any_flows : (w : World) (o : Option Reply) → FlowsAny w o → Flows w.streams (unwrap_or o (no_reply w)).streams
+any_flows w None h = flows_still w.streams
+any_flows w (Some reply) h = h
+
 pub row_flows : (args : List Arg) (w : World) (o : Option RowName) → Flows w.streams (reply_of o args w).streams
 row_flows args w None = flows_still w.streams
-row_flows args w (Some name) = named_flows (rule_of name (values_of args)) name args w
+row_flows args w (Some name) =
+    any_flows w (named_reply name args w) (named_flows (rule_of name (values_of args)) name args w)
 
 pub profile_keeps : KeepsLaws profile
 profile_keeps = record {
@@ -200,3 +212,8 @@ profile_keeps = record {
   call_flows = λ row args w. row_flows args w (name_at row);
   resume_flows = λ rest value w. flows_still w.streams;
 }
+
+-- each function stands in one of the tables
+pub has_all : HasAll
+has_all n.MemcpyS args w = refl
+has_all _ args w = refl

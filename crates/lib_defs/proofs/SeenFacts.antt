@@ -1,7 +1,6 @@
 -- The facts of rows are the same at the values that a line shows.
 use Rattle.std.proofs.Common.{◌≡◌, ℕ, zero, suc, ◌==◌, Bool, true, false, cond, List, [], ◌∷◌, map, slice_get, Option}
 use Rattle.std.proofs.Common.{Some, None, refl, ap, subst, ◌∙◌}
-use Rattle.std.specs.Prelude.{ℤ}
 use Rattle.object_store.specs.declared.pointer.Pointer.{Pointer}
 use Rattle.lib_defs.specs.declared.shown.Shown.TheVariants.{Place}
 use Rattle.lib_defs.specs.declared.value.Value.{Value}
@@ -43,9 +42,6 @@ pointer_seen None = refl
 pointer_seen (Some (Num n)) = refl
 pointer_seen (Some (Ptr p)) = ap (λ v. pointer_of (Some v)) (place_seen (is_null p) p)
 pointer_seen (Some Nothing) = refl
-
-number_size : (z : ℤ) → size_of (Some (seen (Num z))) ≡ size_of (Some (Num z))
-number_size z = refl
 
 size_seen : (o : Option Value) → size_of (seen_option o) ≡ size_of o
 size_seen None = refl

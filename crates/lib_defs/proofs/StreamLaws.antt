@@ -4,7 +4,6 @@ use Rattle.std.proofs.Common.{◌∷◌, ◌++◌, length, Option, Some, None, r
 use Rattle.std.specs.Prelude.{ℤ, pos, negsuc}
 use Rattle.std.specs.Option.{option_map_or}
 use Rattle.std.specs.List.{All}
-use Rattle.std.proofs.lemmas.Int.{ints}
 use Rattle.lib_defs.specs.declared.row.Row.{Row}
 use Rattle.lib_defs.specs.declared.row_name.RowName.{RowName}
 use Rattle.lib_defs.specs.declared.row_name.RowName.TheVariants as n
@@ -13,7 +12,6 @@ use Rattle.lib_defs.specs.declared.value.Arg.{Arg}
 use Rattle.lib_defs.specs.declared.value.Value.TheVariants.{Num}
 use Rattle.lib_defs.specs.Units.{rsize_max}
 use Rattle.lib_defs.specs.RowNumbers.{name_at}
-use Rattle.lib_defs.specs.Prototypes.{IsGiven, int}
 use Rattle.lib_defs.specs.Reply.{Stop, FailsReach, FailsValue, FailsArgument, IsUndefined, Ends}
 use Rattle.lib_defs.specs.Reply.{Fails}
 use Rattle.lib_defs.specs.Handlers.{set_did, first_function}
@@ -28,20 +26,18 @@ use Rattle.lib_defs.specs.Laws.{HandlerFits, is_handler_name}
 use Rattle.lib_defs.specs.RuleLaws.{RuleStop}
 use Rattle.lib_defs.proofs.AnnexRows.{has_form}
 use Rattle.lib_defs.proofs.PlainFits.{Sees}
-use Rattle.lib_defs.proofs.PlainCalls.{Fits, answer_fits, stop_fits}
+use Rattle.lib_defs.proofs.RowsFit.{stop_fits}
+use Rattle.lib_defs.proofs.Forms.{int_given}
+use Rattle.lib_defs.proofs.PlainMemoryLaws.{order_given}
+use Rattle.lib_defs.proofs.PlainCalls.{Fits, answer_fits}
 use Rattle.lib_defs.proofs.PrintLaws.{AnyText, Stops, count_given, whole_sees, PrintStop}
 
 byte_small : (z : ℤ) → modulo_byte z ≤ 255
 byte_small (pos n) = omega arith
 byte_small (negsuc n) = omega arith
 
-small_given : (n : ℕ) → n ≤ 255 → IsGiven int (Num (pos n))
-small_given n le = record { least = omega (arith, ints); greatest = omega (arith, ints) }
-
-end_given : IsGiven int (Num (negsuc 0))
-end_given = record { least = omega (arith, ints); greatest = omega (arith, ints) }
-
-pub first_small : (bytes : List ℕ) → All (λ (b : ℕ). b < 256) bytes → (b : ℕ) (rest : List ℕ) → bytes ≡ b ∷ rest → b ≤ 255
+pub first_small : (bytes : List ℕ) → All (λ (b : ℕ). b < 256) bytes → (b : ℕ) (rest : List ℕ) → bytes ≡ b ∷ rest
+    → b ≤ 255
 first_small bytes all b rest e =
     let h : b < 256 = subst (λ (xs : List ℕ). All (λ (x : ℕ). x < 256) xs) e all 0 b (omega arith) in
     omega (arith, h)
@@ -82,28 +78,31 @@ module _ (row : Row) (args : List Arg) (w : World) (keeps : Rest → Bool) where
   pub put_fits : name_at row ≡ Some n.Putchar → (c : ℤ) → Fits row args w keeps (put_reply w c)
   put_fits named c =
       answer_fits row args w keeps (rw named refl) (Num (pos (modulo_byte c)))
-      (has_form row args n.Putchar named (Num (pos (modulo_byte c))) (λ fit. small_given (modulo_byte c) (byte_small c)))
+      (has_form row args n.Putchar named (Num (pos (modulo_byte c)))
+      (λ fit. int_given (modulo_byte c) (let le = byte_small c in omega (arith, le))))
 
   pub get_fits : name_at row ≡ Some n.Getchar → (bytes : List ℕ) (ending : Ending) → w.streams.input.bytes ≡ bytes
       → w.streams.input.ending ≡ ending
       → ((b : ℕ) (rest : List ℕ) → bytes ≡ b ∷ rest → b ≤ 255) → Fits row args w keeps (get_reply w bytes ending)
   get_fits named [] AtEnd e is small =
       answer_fits row args w keeps (rw named refl) (Num (negsuc 0))
-      (has_form row args n.Getchar named (Num (negsuc 0)) (λ fit. end_given))
+      (has_form row args n.Getchar named (Num (negsuc 0)) (λ fit. order_given true))
   get_fits named [] BrokenInput e is small = (e, is)
   get_fits named (b ∷ bytes) ending e is small =
       answer_fits row args w keeps (rw named refl) (Num (pos b))
-      (has_form row args n.Getchar named (Num (pos b)) (λ fit. small_given b (small b bytes refl)))
+      (has_form row args n.Getchar named (Num (pos b))
+      (λ fit. int_given b (let le = small b bytes refl in omega (arith, le))))
 
-  pub puts_fits : name_at row ≡ Some n.Puts → (seen : Look (List ℕ)) → Sees AnyText w.store seen → Fits row args w keeps (puts_by seen w)
+  pub puts_fits : name_at row ≡ Some n.Puts → (seen : Look (List ℕ)) → Sees AnyText w.store seen
+      → Fits row args w keeps (puts_by seen w)
   puts_fits named (Saw text) h =
       answer_fits row args w keeps (rw named refl) (Num (pos 0))
-      (has_form row args n.Puts named (Num (pos 0)) (λ fit. small_given 0 (omega arith)))
-  puts_fits named (Stuck stop) h = stop_fits row args w keeps w.streams stop h
+      (has_form row args n.Puts named (Num (pos 0)) (λ fit. int_given 0 (omega arith)))
+  puts_fits named (Stuck stop) h = stop_fits row args w w.streams stop h
 
   pub abort_fits : (seen : Look (List ℕ)) → Sees AnyText w.store seen → Fits row args w keeps (abort_by seen w)
   abort_fits (Saw text) h = tt
-  abort_fits (Stuck stop) h = stop_fits row args w keeps w.streams stop h
+  abort_fits (Stuck stop) h = stop_fits row args w w.streams stop h
 
   print_stop_fits : (streams : Streams) → name_at row ≡ Some n.Printf → (stop : Stop) → PrintStop w.store stop
       → RowStopFits row args w streams stop

@@ -1,5 +1,6 @@
 -- The characters of a text that is read to be written.
-use Rattle.std.specs.Prelude.{ℕ, zero, suc, ◌+◌, List, [], ◌∷◌, ◌++◌, Option, Some, None}
+use Rattle.std.specs.Prelude.{◌≡◌, ℕ, zero, suc, ◌+◌, ◌<◌, ◌≤◌, ◌⊎◌, List, [], ◌∷◌, ◌++◌, length, slice_index}
+use Rattle.std.specs.Prelude.{Option, Some, None}
 use Rattle.object_store.specs.declared.by.By.TheVariants.{OtherRead}
 use Rattle.object_store.specs.declared.pointer.Pointer.{Pointer}
 use Rattle.object_store.specs.Storage.{Storage}
@@ -30,10 +31,30 @@ character_then (Stuck stop) rest = ended_by (Some stop)
 character_then (Saw zero) rest = ended_by None
 character_then (Saw (suc c)) rest = behind (suc c ∷ []) (rest tt)
 
--- those from a place on, read one by one to the null, at most so many
-abbrev pub characters_at : Storage → Pointer → ℕ → Characters
-characters_at s p zero = ended_by None
-characters_at s p (suc most) = character_then (see_character s p) (λ u. characters_at s (unit_place 1 p 1) most)
+-- What the characters from the k-th on come to, at most so many, by conditions on how many there are: each of them is
+-- read, and is no null; and they are as many as may be, or the null is behind them, or the read of the next stops.
+pub record IsCharacter (s : Storage) (p : Pointer) (k c : ℕ) : Type 0 where
+  pub read : see_character s (unit_place 1 p k) ≡ Saw c
+  pub some : 0 < c
+
+abbrev pub EndsWith : Storage → Pointer → (k n most : ℕ) → Option Stop → Type 0
+EndsWith s p k n most None = (n ≡ most) ⊎ (see_character s (unit_place 1 p (k + n)) ≡ Saw 0)
+EndsWith s p k n most (Some stop) = (n < most) × (see_character s (unit_place 1 p (k + n)) ≡ Stuck stop)
+
+pub record AreRead (s : Storage) (p : Pointer) (k most : ℕ) (c : Characters) : Type 0 where
+  pub within : length c.list ≤ most
+  pub each : (i : ℕ) → i < length c.list → IsCharacter s p (k + i) (slice_index c.list i)
+  pub ended : EndsWith s p k (length c.list) most c.stop
+
+-- The characters that meet them: those from the k-th on, read one by one to the null, at most so many
+abbrev pub characters_from : Storage → Pointer → (k most : ℕ) → Characters
+characters_from s p k zero = ended_by None
+characters_from s p k (suc most) =
+    character_then (see_character s (unit_place 1 p k)) (λ u. characters_from s p (suc k) most)
+
+-- those at a place
+abbrev pub characters_at : Storage → Pointer → (most : ℕ) → Characters
+characters_at s p most = characters_from s p 0 most
 
 -- those of a string: no object has more
 abbrev pub string_at : Storage → Pointer → Characters

@@ -72,13 +72,16 @@ abbrev pub or_later : Option ℤ → (Unit {0} → Look ℤ) → Look ℤ
 or_later (Some answer) later = Saw answer
 or_later None later = later tt
 
--- units are read in turn, those of p before those of q, at most `most` of each
+-- units are read in turn from the k-th on, those of p before those of q, at most so many of each
+abbrev pub order_from : (ℕ → ℤ) → ℕ → Storage → (p q : Pointer) → (k most : ℕ) → Look ℤ
+order_from value w s p q k zero = Saw (pos 0)
+order_from value w s p q k (suc most) =
+    look (see_unit w s (unit_place w p k)) (λ a.
+    look (see_unit w s (unit_place w q k)) (λ b.
+    or_later (unit_order value a b) (λ u. order_from value w s p q (suc k) most)))
+
 abbrev pub text_order : (ℕ → ℤ) → ℕ → Storage → (p q : Pointer) → (most : ℕ) → Look ℤ
-text_order value w s p q zero = Saw (pos 0)
-text_order value w s p q (suc most) =
-    look (see_unit w s p) (λ a.
-    look (see_unit w s q) (λ b.
-    or_later (unit_order value a b) (λ u. text_order value w s (unit_place w p 1) (unit_place w q 1) most)))
+text_order value w s p q most = order_from value w s p q 0 most
 
 -- strncmp
 abbrev pub part_order_did : (ℕ → ℤ) → ℕ → Storage → (s1 s2 : Pointer) → (n : ℕ) → Did

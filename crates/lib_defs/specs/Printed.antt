@@ -17,20 +17,28 @@ use Rattle.lib_defs.specs.declared.value.Value.{Value}
 use Rattle.lib_defs.specs.declared.value.Value.TheVariants.{Num, Ptr}
 use Rattle.lib_defs.specs.Units.{rsize_max}
 use Rattle.lib_defs.specs.Reply.{Stop, FailsArgument, IsUndefined}
-use Rattle.lib_defs.specs.Constraints.{Look, Saw, Stuck}
+use Rattle.lib_defs.specs.Constraints.{Look, Saw, Stuck, look}
 use Rattle.lib_defs.specs.RowTable.{modulo_byte}
 use Rattle.lib_defs.specs.Characters.{Characters, ended_by, behind, characters_at, whole}
-use Rattle.lib_defs.specs.Conversions.{Modifier, Bare, Hh, H, L, Ll, Z, Specification, has_flag, Conversion, Percent}
-use Rattle.lib_defs.specs.Conversions.{Signed, Unsigned, Character, String, conversion_of, Piece, Ordinary, Specified}
-use Rattle.lib_defs.specs.Conversions.{Unfinished, pieces_within}
+use Rattle.lib_defs.specs.Conversions.{Modifier, Bare, Hh, H, L, Ll, Z, Specification, has_flag, Form, Signed}
+use Rattle.lib_defs.specs.Conversions.{Unsigned, Character, String, Conversion, Percent, Takes, conversion_of, Piece}
+use Rattle.lib_defs.specs.Conversions.{Ordinary, Specified, Unfinished, percent, pieces_of}
 
--- A text with its sign, padded to the width: on the right with spaces, on the left with zeros behind the sign, or on the
--- left with spaces. `-` overrules `0` (p6).
+-- what fills a width
+abbrev pub space : ℕ
+space = 32
+
+abbrev pub zero_digit : ℕ
+zero_digit = 48
+
+-- A text with its sign, padded to the width: on the right with spaces, on the left with zeros behind the sign, or on
+-- the left with spaces. `-` overrules `0` (p6).
 abbrev pub padded : Specification → (sign text : List ℕ) → List ℕ
 padded c sign text =
     let fill : ℕ = digits_value 10 c.width - (length sign + length text) in
-    if has_flag (codes "-") c then sign ++ text ++ replicate fill 32 else
-    if has_flag (codes "0") c then sign ++ replicate fill 48 ++ text else replicate fill 32 ++ sign ++ text
+    if has_flag (codes "-") c then sign ++ text ++ replicate fill space else
+    if has_flag (codes "0") c then sign ++ replicate fill zero_digit ++ text else
+    replicate fill space ++ sign ++ text
 
 -- `+` acts on numbers with a sign
 abbrev pub sign_of : Specification → ℤ → List ℕ
@@ -97,66 +105,55 @@ abbrev pub text_for : ArgKind → Value → Option Pointer
 text_for kind.CharPointer (Ptr p) = Some p
 text_for _ _ = None
 
--- What the k-th argument of printf comes to under a conversion: its text, or why there is none.
-abbrev pub text_or : ℕ → Option (List ℕ) → Look (List ℕ)
-text_or k (Some text) = Saw text
-text_or k None = Stuck (FailsArgument k)
-
-abbrev pub map_number : (ℤ → List ℕ) → Option ℤ → Option (List ℕ)
-map_number text None = None
-map_number text (Some n) = Some (text n)
-
 -- how many characters of a string are read: as many as the precision says, else all
 abbrev pub most_of : Option (List ℕ) → ℕ
 most_of None = rsize_max + 1
 most_of (Some precision) = digits_value 10 precision
 
--- a string is read whole before any of it is written
-abbrev pub padded_string : Specification → Look (List ℕ) → Look (List ℕ)
-padded_string c (Saw text) = Saw (padded c [] text)
-padded_string c (Stuck stop) = Stuck stop
+-- what printf's k-th argument is, where it is of the kind that is wanted
+abbrev pub argument : {A : Type 0} → ℕ → Option A → Look A
+argument k (Some a) = Saw a
+argument k None = Stuck (FailsArgument k)
 
-abbrev pub string_text : Storage → Specification → ℕ → Option Pointer → Look (List ℕ)
-string_text s c k None = Stuck (FailsArgument k)
-string_text s c k (Some p) = padded_string c (whole (characters_at s p (most_of c.precision)))
-
-abbrev pub argument_text : Storage → Conversion → Specification → ℕ → Arg → Look (List ℕ)
-argument_text s Percent c k a = Saw (codes "%")
+-- The text of the k-th argument. A string is read whole before any of it is written.
+abbrev pub argument_text : Storage → Form → Specification → ℕ → Arg → Look (List ℕ)
 argument_text s Signed c k a =
-    text_or k (map_number (λ n. signed_text c (signed_value c.modifier n)) (number_for c.modifier (signed_kind c.modifier) a))
+    look (argument k (number_for c.modifier (signed_kind c.modifier) a)) (λ n.
+    Saw (signed_text c (signed_value c.modifier n)))
 argument_text s (Unsigned base upper) c k a =
-    text_or k
-    (map_number (λ n. unsigned_text c base upper (unsigned_value c.modifier n))
-    (number_for c.modifier (unsigned_kind c.modifier) a))
+    look (argument k (number_for c.modifier (unsigned_kind c.modifier) a)) (λ n.
+    Saw (unsigned_text c base upper (unsigned_value c.modifier n)))
 argument_text s Character c k a =
-    text_or k (map_number (λ n. padded c [] (modulo_byte n ∷ [])) (number_for Bare I32 a))
-argument_text s String c k a = string_text s c k (text_for a.kind a.value)
+    look (argument k (number_for Bare I32 a)) (λ n. Saw (padded c [] (modulo_byte n ∷ [])))
+argument_text s String c k a =
+    look (argument k (text_for a.kind a.value)) (λ p.
+    look (whole (characters_at s p (most_of c.precision))) (λ text.
+    Saw (padded c [] text)))
 
 -- writes a text and goes on, or stops
 abbrev pub write_then : Look (List ℕ) → (Unit {0} → Characters) → Characters
 write_then (Saw text) go = behind text (go tt)
 write_then (Stuck stop) go = ended_by (Some stop)
 
--- A conversion with the arguments that are left, the first of which is the k-th. `%%` takes none. An undefined one stops
--- before its argument is looked at.
+-- A conversion with the arguments that are left, the first of which is the k-th. An undefined one stops before its
+-- argument is looked at.
 abbrev pub convert_then : Storage → Option Conversion → Specification → ℕ → List Arg → (ℕ → List Arg → Characters)
     → Characters
 convert_then s None c k args go = ended_by (Some (IsUndefined U09))
-convert_then s (Some Percent) c k args go = behind (codes "%") (go k args)
-convert_then s (Some conversion) c k [] go = ended_by (Some (FailsArgument k))
-convert_then s (Some conversion) c k (a ∷ args) go =
-    write_then (argument_text s conversion c k a) (λ u. go (k + 1) args)
+convert_then s (Some Percent) c k args go = behind (percent ∷ []) (go k args)
+convert_then s (Some (Takes form)) c k [] go = ended_by (Some (FailsArgument k))
+convert_then s (Some (Takes form)) c k (a ∷ args) go =
+    write_then (argument_text s form c k a) (λ u. go (k + 1) args)
 
 -- the text of the pieces of a format that ends so
-abbrev pub pieces_text : Storage → Option Stop → List Piece → ℕ → List Arg → Characters
-pieces_text s end [] k args = ended_by end
-pieces_text s end (Ordinary c ∷ pieces) k args = behind (c ∷ []) (pieces_text s end pieces k args)
-pieces_text s end (Unfinished ∷ pieces) k args = ended_by (Some (unwrap_or end (IsUndefined U09)))
-pieces_text s end (Specified c ∷ pieces) k args =
-    convert_then s (conversion_of c) c k args (λ j rest. pieces_text s end pieces j rest)
+abbrev pub printed_from : Storage → Option Stop → List Piece → ℕ → List Arg → Characters
+printed_from s end [] k args = ended_by end
+printed_from s end (Ordinary c ∷ pieces) k args = behind (c ∷ []) (printed_from s end pieces k args)
+printed_from s end (Unfinished text ∷ pieces) k args = ended_by (Some (unwrap_or end (IsUndefined U09)))
+printed_from s end (Specified c ∷ pieces) k args =
+    convert_then s (conversion_of c) c k args (λ j rest. printed_from s end pieces j rest)
 
 -- The text that a format gives with the arguments behind it, of which the first is printf's second. The format is read
 -- as it is printed, so what stands before a stop comes out.
 abbrev pub printed : Storage → Characters → List Arg → Characters
-printed s format args =
-    pieces_text s format.stop (pieces_within (length format.list) format.list) 2 args
+printed s format args = printed_from s format.stop (pieces_of format.list) 2 args

@@ -1,5 +1,5 @@
 -- The library of the profile: all functions that have a name.
-use Rattle.std.specs.Prelude.{List, [], Option, Some, None}
+use Rattle.std.specs.Prelude.{List, [], Option, Some, None, IsSome, unwrap_or}
 use Rattle.critical_table.specs.declared.ended.Ended.TheVariants.{Aborted}
 use Rattle.lib_defs.specs.declared.row_name.RowName.{RowName}
 use Rattle.lib_defs.specs.declared.row_name.RowName.TheVariants as n
@@ -49,35 +49,42 @@ plain_did n.Realloc v s = Some (realloc_did s (ptr v 0) (count v 1))
 plain_did n.Free v s = Some (free_did s (ptr v 0))
 plain_did _ v s = None
 
+-- Handlers, streams, and the ends of a run.
+abbrev pub other_reply : RowName → List Arg → World → Option Reply
+other_reply n.SetConstraintHandlerS args w = Some (reply_with w (set_did w.handler (ptr (values_of args) 0)))
+other_reply n.AbortHandlerS args w = Some (abort_reply w (ptr (values_of args) 0))
+other_reply n.IgnoreHandlerS args w = Some (reply_with w (done_with [] Nothing))
+other_reply n.Exit args w = Some (reply_with w (exit_did (num (values_of args) 0)))
+other_reply n.Abort args w = Some (reply_with w (Fails (Ends Aborted)))
+other_reply n.Putchar args w = Some (put_reply w (num (values_of args) 0))
+other_reply n.Puts args w = Some (puts_reply w (ptr (values_of args) 0))
+other_reply n.Getchar args w = Some (get_reply w w.streams.input.bytes w.streams.input.ending)
+other_reply n.Printf args w = Some (print_reply w (ptr (values_of args) 0) args)
+other_reply _ args w = None
+
+abbrev pub plain_or : Option Did → RowName → List Arg → World → Option Reply
+plain_or (Some d) name args w = Some (reply_with w d)
+plain_or None name args w = other_reply name args w
+
+abbrev pub rule_or : Option Rule → RowName → List Arg → World → Option Reply
+rule_or (Some r) name args w = Some (reply_with w (run_rule r w.store))
+rule_or None name args w = plain_or (plain_did name (values_of args) w.store) name args w
+
+-- what a function answers: it is one of Annex K with a row of constraints, one that sees the store alone, or another
+abbrev pub named_reply : RowName → List Arg → World → Option Reply
+named_reply name args w = rule_or (rule_of name (values_of args)) name args w
+
+-- each function has an answer, at all arguments and in all worlds
+abbrev pub HasAll : Type 0
+HasAll = (name : RowName) (args : List Arg) (w : World) → IsSome (named_reply name args w)
+
 -- a number that is no function's: no call has it
 abbrev pub no_reply : World → Reply
 no_reply w = reply_with w (Fails (Ends Aborted))
 
--- the handlers, the streams, and the ends of a run
-abbrev pub other_reply : RowName → List Arg → World → Reply
-other_reply n.SetConstraintHandlerS args w = reply_with w (set_did w.handler (ptr (values_of args) 0))
-other_reply n.AbortHandlerS args w = abort_reply w (ptr (values_of args) 0)
-other_reply n.IgnoreHandlerS args w = reply_with w (done_with [] Nothing)
-other_reply n.Exit args w = reply_with w (exit_did (num (values_of args) 0))
-other_reply n.Abort args w = reply_with w (Fails (Ends Aborted))
-other_reply n.Putchar args w = put_reply w (num (values_of args) 0)
-other_reply n.Puts args w = puts_reply w (ptr (values_of args) 0)
-other_reply n.Getchar args w = get_reply w w.streams.input.bytes w.streams.input.ending
-other_reply n.Printf args w = print_reply w (ptr (values_of args) 0) args
-other_reply _ args w = no_reply w
-
-abbrev pub plain_or : Option Did → RowName → List Arg → World → Reply
-plain_or (Some d) name args w = reply_with w d
-plain_or None name args w = other_reply name args w
-
--- each function stands in one of the three tables: those of Annex K with the rows of its constraints come first
-abbrev pub rule_or : Option Rule → RowName → List Arg → World → Reply
-rule_or (Some r) name args w = reply_with w (run_rule r w.store)
-rule_or None name args w = plain_or (plain_did name (values_of args) w.store) name args w
-
 abbrev pub reply_of : Option RowName → List Arg → World → Reply
 reply_of None args w = no_reply w
-reply_of (Some name) args w = rule_or (rule_of name (values_of args)) name args w
+reply_of (Some name) args w = unwrap_or (named_reply name args w) (no_reply w)
 
 -- No function of the profile wants one of the guest's.
 abbrev pub profile : Library
