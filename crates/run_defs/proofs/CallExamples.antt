@@ -2,22 +2,18 @@
 use Rattle.std.proofs.Common.{◌≡◌, ℕ, List, [], ◌∷◌, ◌++◌, refl}
 use Rattle.std.specs.Prelude.{codes, pos}
 use Rattle.std.specs.Fmt.{digits}
-use Rattle.object_store.specs.declared.pointer.Pointer.{Pointer}
 use Rattle.object_store.specs.Messages.{message_bytes}
 use Rattle.object_store.specs.Reach.{reach_table}
-
 use Rattle.object_store.specs.Storage.{live_bytes}
-use Rattle.lib_defs.specs.declared.value.Value.{Value}
-use Rattle.lib_defs.specs.declared.value.Value.TheVariants.{Num, Ptr, Nothing}
+use Rattle.lib_defs.specs.declared.value.Value.TheVariants.{Num, Nothing}
 use Rattle.lib_defs.specs.declared.value.ArgKind.TheVariants.{Int}
 use Rattle.lib_defs.specs.Spans.{span}
 use Rattle.lib_defs.specs.Reply.{null}
 use Rattle.run_defs.specs.Lines.{event_text}
-use Rattle.run_defs.specs.State.{State}
-use Rattle.run_defs.specs.Evaluation.{Evaluation, Gives, bind, whole}
+use Rattle.run_defs.specs.Evaluation.{Gives, bind, whole}
 use Rattle.run_defs.specs.Calls.{Enter}
-use Rattle.run_defs.proofs.ExampleRuns.{h, g, d, long, to_function, ignore_handler, ptr, size, calls, strcpy, set_handler}
-use Rattle.run_defs.proofs.ExampleRuns.{returns, shows, handled_by, done}
+use Rattle.run_defs.proofs.ExampleRuns.{h, g, d, long, to_function, ignore_handler, ptr, size, calls, strcpy}
+use Rattle.run_defs.proofs.ExampleRuns.{set_handler, returns, shows, handled_by, done}
 
 -- set_constraint_handler_s(h), and with ignore_handler_s
 abbrev set_h : List (List ℕ)
@@ -33,7 +29,7 @@ set_ignore =
     ∷ codes "ret set_constraint_handler_s abort_handler_s" ∷ []
 
 -- A constraint fails, and the handler returns: strcpy_s(0, 1, "long").
-ignored : handled_by 100 ignore_handler (strcpy returns null 1 long) ≡ shows (set_ignore ++ 
+ignored : handled_by 100 ignore_handler (strcpy returns null 1 long) ≡ shows (set_ignore ++
     codes "lib strcpy_s 0:0 1 6:0"
     ∷ codes "violated strcpy_s 1"
     ∷ codes "handler ignore_handler_s"
@@ -49,7 +45,7 @@ again f args at s = bind (set_handler ignore_handler s) (λ v s1. bind (strcpy r
     Gives Nothing s2))
 
 -- The inner call's handler is the one that was set last.
-nested : handled_by 100 h (strcpy again d 2 long) ≡ shows (set_h ++ 
+nested : handled_by 100 h (strcpy again d 2 long) ≡ shows (set_h ++
     codes "lib strcpy_s 4:0 2 6:0"
     ∷ codes "violated strcpy_s 5"
     ∷ codes "store 4 0 1"
@@ -70,7 +66,7 @@ unfolding digits event_text reach_table message_bytes live_bytes span
 nested = refl
 
 -- The last tick: three calls take one each, so does the handler's.
-last_tick : handled_by 3 ignore_handler (strcpy returns d 2 long) ≡ shows (set_ignore ++ 
+last_tick : handled_by 3 ignore_handler (strcpy returns d 2 long) ≡ shows (set_ignore ++
     codes "lib strcpy_s 4:0 2 6:0"
     ∷ codes "violated strcpy_s 5"
     ∷ codes "store 4 0 1"
@@ -82,7 +78,7 @@ unfolding digits event_text reach_table message_bytes live_bytes span
 last_tick = refl
 
 -- One less: the action is stored, and no handler is called.
-one_less : handled_by 2 ignore_handler (strcpy returns d 2 long) ≡ shows (set_ignore ++ 
+one_less : handled_by 2 ignore_handler (strcpy returns d 2 long) ≡ shows (set_ignore ++
     codes "lib strcpy_s 4:0 2 6:0"
     ∷ codes "violated strcpy_s 5"
     ∷ codes "store 4 0 1"
@@ -91,13 +87,13 @@ unfolding digits event_text reach_table message_bytes live_bytes span
 one_less = refl
 
 -- A call needs its tick before its line.
-two_less : handled_by 1 ignore_handler (strcpy returns d 2 long) ≡ shows (set_ignore ++ 
+two_less : handled_by 1 ignore_handler (strcpy returns d 2 long) ≡ shows (set_ignore ++
     codes "end out of ticks" ∷ [])
 unfolding digits event_text reach_table message_bytes live_bytes span
 two_less = refl
 
 -- An action that can't be reached, to a literal: nothing is stored, and no handler is called.
-unreached : handled_by 100 ignore_handler (strcpy returns long 2 long) ≡ shows (set_ignore ++ 
+unreached : handled_by 100 ignore_handler (strcpy returns long 2 long) ≡ shows (set_ignore ++
     codes "lib strcpy_s 6:0 2 6:0"
     ∷ codes "trap 5 at 2:7 pointer 6 0 0 5 size 1 align 1 by textwrite"
     ∷ codes "end trapped 5" ∷ [])
@@ -139,7 +135,7 @@ unfolding digits event_text reach_table message_bytes live_bytes span
 aborts = refl
 
 -- A null pointer sets abort_handler_s.
-null_handler : handled_by 100 ignore_handler (set_handler null) ≡ shows (set_ignore ++ 
+null_handler : handled_by 100 ignore_handler (set_handler null) ≡ shows (set_ignore ++
     codes "lib set_constraint_handler_s"
     ∷ codes "set abort_handler_s"
     ∷ codes "ret set_constraint_handler_s ignore_handler_s"
@@ -168,7 +164,7 @@ abbrev exits : Enter
 exits f args at s = calls returns 47 (record { value = Num (pos 7); kind = Int } ∷ []) s
 
 -- A handler that ends the run leaves the call open.
-left_open : handled_by 100 h (strcpy exits null 1 long) ≡ shows (set_h ++ 
+left_open : handled_by 100 h (strcpy exits null 1 long) ≡ shows (set_h ++
     codes "lib strcpy_s 0:0 1 6:0"
     ∷ codes "violated strcpy_s 1"
     ∷ codes "handler h"

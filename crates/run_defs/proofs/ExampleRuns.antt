@@ -1,6 +1,6 @@
 -- A small program and its library calls, for examples.
-use Rattle.std.specs.Prelude.{ℕ, zero, suc, ◌+◌, ◌++◌, true, false, pos as positive, List, [], ◌∷◌, map, codes, slice_get}
-use Rattle.std.specs.Prelude.{Option, None}
+use Rattle.std.specs.Prelude.{ℕ, zero, suc, ◌+◌, ◌++◌, true, false, pos as positive, List, [], ◌∷◌, map, codes}
+use Rattle.std.specs.Prelude.{slice_get, Option, None}
 use Rattle.critical_table.specs.declared.pos.Pos.{Pos}
 use Rattle.object_store.specs.declared.mark.Mark.TheVariants.{Literal}
 use Rattle.object_store.specs.declared.pointer.Pointer.{Pointer}
@@ -73,7 +73,8 @@ abbrev pub empty_input : Input
 empty_input = record { bytes = []; ending = AtEnd }
 
 abbrev pub begin_with : ℕ → Evaluation (Unit {0})
-begin_with ticks = statics_placed statics (start_state (record { ticks = ticks; bytes = 1000 }) empty_input abort_handler)
+begin_with ticks = statics_placed statics
+    (start_state (record { ticks = ticks; bytes = 1000 }) empty_input abort_handler)
 
 abbrev pub at_two : Pos
 at_two = record { line = 2; column = 7 }

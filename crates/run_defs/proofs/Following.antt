@@ -1,7 +1,6 @@
 -- How the replay of a journal goes on, line by line, and what is kept over the evaluations of a unit's parts.
-use Rattle.std.proofs.Common.{◌≡◌, ℕ, zero, suc, ◌≤◌, ◌<◌, Bool, true, false, List, [], ◌∷◌, ◌++◌, length, Option, Some, None, refl}
-use Rattle.std.proofs.Common.{arith, ap, subst, sym, ◌∙◌}
-use Rattle.std.specs.Prelude.{Result, Ok, Err}
+use Rattle.std.proofs.Common.{◌≡◌, ℕ, zero, suc, ◌≤◌, Bool, true, false, List, [], ◌∷◌, ◌++◌, length, Option, Some}
+use Rattle.std.proofs.Common.{None, refl, ◌+◌, arith, ap, sym, ◌∙◌, length-append}
 use Rattle.std.specs.Option.{option_and_then}
 use Rattle.std.proofs.lemmas.Bool.{le-leb, eq-eqb, and_from, or_left, cond-true, cond_both}
 use Rattle.critical_table.specs.declared.case.Case.{Case}
@@ -20,29 +19,27 @@ use Rattle.object_store.specs.Storage.{is_live}
 use Rattle.lib_defs.specs.declared.shown.Shown.{Shown}
 use Rattle.lib_defs.specs.Units.{rsize_max}
 use Rattle.lib_defs.specs.Reply.{Patch}
-use Rattle.lib_defs.specs.Laws.{IsWorld}
 use Rattle.run_defs.specs.declared.attempt.Attempt.{Attempt}
 use Rattle.run_defs.specs.declared.event.Event.{Event}
 use Rattle.run_defs.specs.declared.event.Event.TheVariants as event
-use Rattle.run_defs.specs.declared.outcome.End.{End}
-use Rattle.run_defs.specs.declared.outcome.End.TheVariants as end
 use Rattle.run_defs.specs.declared.outcome.Outcome.{Outcome}
 use Rattle.run_defs.specs.declared.outcome.Outcome.TheVariants.{Trapped, Undefined, OutOfTicks, OutOfBytes}
 use Rattle.run_defs.specs.declared.seal.Seal.{Seal}
 use Rattle.run_defs.specs.Outcomes.{end_of}
-use Rattle.run_defs.specs.State.{State, logged, with_storage, made, static_made, has_range, sealed, died, bytes_patched}
-use Rattle.run_defs.specs.State.{patched, call_left}
-use Rattle.run_defs.specs.Evaluation.{Evaluation, Gives, Stops, bind, fails_reach, fails_value, undefined, ticked_at}
-use Rattle.run_defs.specs.Evaluation.{ticked, within_if, within, reached_if, reached, store_attempt, stored, whole}
-use Rattle.run_defs.specs.Evaluation.{automatic_made, call_entered, finished}
-use Rattle.run_defs.specs.Functions.{Environment, handler_name}
+use Rattle.run_defs.specs.State.{State, logged, made, static_made, has_range, sealed, died, bytes_patched, patched}
+use Rattle.run_defs.specs.State.{call_left}
+use Rattle.run_defs.specs.Evaluation.{Evaluation, Gives, Stops, bind, ticked_at, ticked, within_if, within, reached_if}
+use Rattle.run_defs.specs.Evaluation.{reached, store_attempt, stored, automatic_made, call_entered}
+use Rattle.run_defs.specs.Functions.{Environment}
 use Rattle.run_defs.specs.Fits.{same_case, same_code, is_quiet, is_told, is_case, is_call_trap}
-use Rattle.run_defs.specs.Replay.{Phase, Running, Handling, OpenCall, Due, AnyLine, TheEnd, NoLine, Replay, stored_phase}
-use Rattle.run_defs.specs.Replay.{with_phase, step, replay, at_start, IsLawful}
-use Rattle.run_defs.proofs.Outlines.{outlined_store, outlines-new, outlines-static, next_number-outlines, is_live-outlines}
+use Rattle.run_defs.specs.Replay.{Phase, Running, Handling, OpenCall, AnyLine, TheEnd, NoLine, Replay, stored_phase}
+use Rattle.run_defs.specs.Replay.{with_phase, step, replay, at_start}
+use Rattle.run_defs.specs.Kept.{Reads, flag_phase, with_flag, seen, most_objects, At, Closes, Keeps}
+use Rattle.run_defs.proofs.Outlines.{outlines-new, outlines-static, next_number-outlines, is_live-outlines}
 use Rattle.run_defs.proofs.Outlines.{has_range-outlines, outlines-dead, outlines-mark, reach-outlines, outlines-stored}
 use Rattle.run_defs.proofs.Outlines.{is_store-outlines}
-use Rattle.run_defs.proofs.Worlds.{sized_new, sized_static, sized_dead, sized_mark, sized_stored}
+use Rattle.run_defs.proofs.Worlds.{sized_new, sized_static, sized_dead, sized_mark, sized_stored, length-dead}
+use Rattle.run_defs.proofs.Worlds.{length-mark, length-stored}
 
 -- a journal is read in two parts
 append_found : (j1 j2 : List Event)
@@ -57,52 +54,17 @@ replay-append : (r : Replay) (j1 j2 : List Event)
 replay-append r [] j2 = refl
 replay-append r (e ∷ j1) j2 = append_found j1 j2 (λ r1. replay-append r1 j1 j2) (step r e)
 
--- the replay of the state's journal comes to r
-abbrev pub Reads : State → Replay → Type 0
-Reads s r = replay at_start s.journal ≡ Some r
-
 pub reads_on : (s : State) (line : Event) (r r2 : Replay) → Reads s r → step r line ≡ Some r2 → Reads (logged line s) r2
 reads_on s line r r2 reads fits = replay-append at_start s.journal (line ∷ []) ∙ rw reads (rw fits refl)
-
--- whether the call on top has stored while it runs
-abbrev pub flag_phase : Bool → Phase → Phase
-flag_phase flag (Running stored) = Running flag
-flag_phase flag (Handling k) = Handling k
-
-abbrev pub with_flag : Bool → List OpenCall → List OpenCall
-with_flag flag calls = with_phase (flag_phase flag) calls
 
 stored_flag : (flag : Bool) (phase : Phase) → stored_phase (flag_phase flag phase) ≡ flag_phase true phase
 stored_flag flag (Running stored) = refl
 stored_flag flag (Handling k) = refl
 
-pub store_flag : (flag : Bool) (calls : List OpenCall) → with_phase stored_phase (with_flag flag calls) ≡ with_flag true calls
+pub store_flag : (flag : Bool) (calls : List OpenCall)
+    → with_phase stored_phase (with_flag flag calls) ≡ with_flag true calls
 store_flag flag [] = refl
 store_flag flag (c ∷ calls) = ap (λ phase. record c { phase = phase } ∷ calls) (stored_flag flag c.phase)
-
--- what the replay has come to: the objects and the handler are those of the state
-abbrev pub seen : Environment → Bool → State → List OpenCall → Due → Replay
-seen e flag s calls due = record {
-  store = outlined_store s.world.store.objects;
-  handler = handler_name e s.world.handler.current;
-  calls = with_flag flag calls;
-  due = due;
-}
-
--- The open calls are these, but for whether the one on top has stored, and any line may stand next.
-pub record At (e : Environment) (s : State) (calls : List OpenCall) : Type 0 where
-  pub flag : Bool
-  pub reads : Reads s (seen e flag s calls AnyLine)
-  pub world : IsWorld s.world
-
--- the journal with this end is lawful
-abbrev pub Closes : Outcome → State → Type 0
-Closes outcome s = IsLawful (finished outcome s).journal
-
--- The open calls are the same again at each evaluation that gives a value, and the journal is lawful at each that stops.
-abbrev pub Keeps : {A : Type 0} → Environment → List OpenCall → Evaluation A → Type 0
-Keeps e calls (Gives value s) = At e s calls
-Keeps e calls (Stops outcome s) = Closes outcome s
 
 pub same_case_itself : (c : Case) → same_case c c ≡ true
 same_case_itself c = eq-eqb (case_row c).number (case_row c).number refl
@@ -127,21 +89,24 @@ is_its_case case found is = rw is (same_case_itself case)
 module _ (e : Environment) where
   -- Changes of the objects.
 
-  pub at_made : (s : State) (calls : List OpenCall) (size : ℕ) (class : Class) → 1 ≤ size → size ≤ rsize_max → At e s calls
-      → At e (made size class s) calls
-  at_made s calls size class some within a = record {
+  pub at_made : (s : State) (calls : List OpenCall) (size : ℕ) (class : Class) → 1 ≤ size → size ≤ rsize_max
+      → length s.world.store.objects + 1 + s.ticks ≤ most_objects → At e s calls → At e (made size class s) calls
+  at_made s calls size class some within room a = record {
     flag = a.flag;
-    reads = reads_on s (event.Made (next_number s.world.store class) size class) (seen e a.flag s calls AnyLine) _ a.reads
+    reads = reads_on s (event.Made (next_number s.world.store class) size class)
+        (seen e a.flag s calls AnyLine) _ a.reads
         (cond-true _ _ _ (and_from _ _ (eq-eqb _ _ (sym (next_number-outlines s.world.store class)))
         (and_from _ _ (le-leb 1 size some) (le-leb size rsize_max within)))
         ∙ ap (λ st. Some (record (seen e a.flag s calls AnyLine) { store = st }))
         (sym (outlines-new s.world.store.objects size class)));
     world = record { sized = sized_new s.world.store size class within a.world.sized; bytes = a.world.bytes };
+    few = rw length-append room;
   }
 
-  pub at_static_made : (s : State) (calls : List OpenCall) (bytes : List ℕ) → 1 ≤ length bytes → length bytes ≤ rsize_max
-      → At e s calls → At e (static_made bytes s) calls
-  at_static_made s calls bytes some within a = record {
+  pub at_static_made : (s : State) (calls : List OpenCall) (bytes : List ℕ) → 1 ≤ length bytes
+      → length bytes ≤ rsize_max
+      → length s.world.store.objects + 1 + s.ticks ≤ most_objects → At e s calls → At e (static_made bytes s) calls
+  at_static_made s calls bytes some within room a = record {
     flag = a.flag;
     reads = reads_on s (event.Made (next_number s.world.store Static) (length bytes) Static)
         (seen e a.flag s calls AnyLine) _ a.reads
@@ -150,10 +115,13 @@ module _ (e : Environment) where
         ∙ ap (λ st. Some (record (seen e a.flag s calls AnyLine) { store = st }))
         (sym (outlines-static s.world.store.objects bytes)));
     world = record { sized = sized_static s.world.store bytes within a.world.sized; bytes = a.world.bytes };
+    few = rw length-append room;
   }
 
-  pub at_sealed : (s : State) (calls : List OpenCall) (number : ℕ) (seal : Seal) → At e s calls → At e (sealed number seal s) calls
-  at_sealed s calls number seal a = cond_both (has_range s.world.store number seal.at seal.len) _ _ (λ s1. At e s1 calls)
+  pub at_sealed : (s : State) (calls : List OpenCall) (number : ℕ) (seal : Seal) → At e s calls
+      → At e (sealed number seal s) calls
+  at_sealed s calls number seal a = cond_both (has_range s.world.store number seal.at seal.len) _ _
+      (λ s1. At e s1 calls)
       (λ has. record {
         flag = a.flag;
         reads = reads_on s (event.Sealed number seal) (seen e a.flag s calls AnyLine) _ a.reads
@@ -164,6 +132,7 @@ module _ (e : Environment) where
           sized = sized_mark s.world.store number seal.at seal.len seal.mark a.world.sized;
           bytes = a.world.bytes;
         };
+        few = rw (length-mark s.world.store number seal.at seal.len seal.mark) a.few;
       })
       (λ no. a)
 
@@ -176,6 +145,7 @@ module _ (e : Environment) where
             ∙ ap (λ st. Some (record (seen e a.flag s calls AnyLine) { store = st }))
             (sym (outlines-dead s.world.store number)));
         world = record { sized = sized_dead s.world.store number a.world.sized; bytes = a.world.bytes };
+        few = rw (length-dead s.world.store number) a.few;
       })
       (λ dead. a)
 
@@ -188,16 +158,23 @@ module _ (e : Environment) where
         (seen e a.flag s calls AnyLine) _ a.reads
         (cond-true _ _ _ (is_store-outlines s.world.store place (b ∷ bytes) reached (omega arith))
         ∙ rw (outlines-stored s.world.store place (b ∷ bytes) reached, store_flag a.flag calls) refl);
-    world = record { sized = sized_stored s.world.store place (b ∷ bytes) reached a.world.sized; bytes = a.world.bytes };
+    world = record {
+      sized = sized_stored s.world.store place (b
+          ∷ bytes) reached a.world.sized;
+      bytes = a.world.bytes;
+    };
+    few = rw (length-stored s.world.store.objects place (b ∷ bytes)) a.few;
   }
 
-  pub at_patched : (s : State) (calls : List OpenCall) (p : Patch) → IsReachedToStore s.world.store p.place (length p.bytes)
+  pub at_patched : (s : State) (calls : List OpenCall) (p : Patch)
+      → IsReachedToStore s.world.store p.place (length p.bytes)
       → At e s calls → At e (patched p s) calls
   at_patched s calls p reached a = at_bytes s calls p.place p.bytes reached a
 
   -- Ends.
 
-  pub quiet_closes : (s : State) (calls : List OpenCall) (outcome : Outcome) → is_quiet (end_of outcome) ≡ true → At e s calls
+  pub quiet_closes : (s : State) (calls : List OpenCall) (outcome : Outcome) → is_quiet (end_of outcome) ≡ true
+      → At e s calls
       → Closes outcome s
   quiet_closes s calls outcome quiet a = record {
     last = seen e a.flag s calls NoLine;
@@ -247,21 +224,24 @@ module _ (e : Environment) where
   keeps_bind inner calls (Stops outcome s) next a go = a
 
   by_ticks : {B : Type 0} (inner calls : List OpenCall) (s : State) (ticks : ℕ) (next : Unit {0} → State → Evaluation B)
-      → At e s inner → ((left : ℕ) → Keeps e calls (next tt (record s { ticks = left })))
+      → At e s inner → ((left : ℕ) → suc left ≡ ticks → Keeps e calls (next tt (record s { ticks = left })))
       → Keeps e calls (bind (ticked_at ticks s) next)
   by_ticks inner calls s zero next a go = quiet_closes s inner OutOfTicks refl a
-  by_ticks inner calls s (suc left) next a go = go left
+  by_ticks inner calls s (suc left) next a go = go left refl
 
   pub keeps_tick : {B : Type 0} (inner calls : List OpenCall) (s : State) (next : Unit {0} → State → Evaluation B)
-      → At e s inner → ((left : ℕ) → Keeps e calls (next tt (record s { ticks = left })))
+      → At e s inner → ((left : ℕ) → suc left ≡ s.ticks → Keeps e calls (next tt (record s { ticks = left })))
       → Keeps e calls (bind (ticked s) next)
   keeps_tick inner calls s next a go = by_ticks inner calls s s.ticks next a go
 
   -- a tick changes nothing that a journal shows
-  pub at_tick : (s : State) (calls : List OpenCall) (left : ℕ) → At e s calls → At e (record s { ticks = left }) calls
-  at_tick s calls left a = record { flag = a.flag; reads = a.reads; world = a.world }
+  pub at_tick : (s : State) (calls : List OpenCall) (left : ℕ) → suc left ≡ s.ticks → At e s calls
+      → At e (record s { ticks = left }) calls
+  at_tick s calls left is a =
+      record { flag = a.flag; reads = a.reads; world = a.world; few = omega (arith, is, a.few) }
 
-  by_room : {B : Type 0} (inner calls : List OpenCall) (s : State) (room : Bool) (next : Unit {0} → State → Evaluation B)
+  by_room : {B : Type 0} (inner calls : List OpenCall) (s : State) (room : Bool)
+      (next : Unit {0} → State → Evaluation B)
       → At e s inner → Keeps e calls (next tt s) → Keeps e calls (bind (within_if room s) next)
   by_room inner calls s true next a go = go
   by_room inner calls s false next a go = quiet_closes s inner OutOfBytes refl a
@@ -271,7 +251,8 @@ module _ (e : Environment) where
       → Keeps e calls (bind (within size s) next)
   keeps_within inner calls size s next a go = by_room inner calls s (fits s.world.store 0 size) next a go
 
-  by_reach : {B : Type 0} (inner calls : List OpenCall) (found : Option Case) (attempt : Attempt) (pos : Pos) (s : State)
+  by_reach : {B : Type 0} (inner calls : List OpenCall) (found : Option Case) (attempt : Attempt) (pos : Pos)
+      (s : State)
       (next : Unit {0} → State → Evaluation B)
       → reach s.world.store attempt.place attempt.len attempt.align attempt.by ≡ found → At e s inner
       → (reach s.world.store attempt.place attempt.len attempt.align attempt.by ≡ None → Keeps e calls (next tt s))
@@ -295,14 +276,24 @@ module _ (e : Environment) where
 
   pub automatic_keeps : (size : ℕ) (s : State) (calls : List OpenCall) → 1 ≤ size → size ≤ rsize_max → At e s calls
       → Keeps e calls (automatic_made size s)
-  automatic_keeps size s calls some within a = keeps_tick calls calls s _ a (λ left.
-      keeps_within calls calls size (record s { ticks = left }) _ (at_tick s calls left a)
-      (at_made (record s { ticks = left }) calls size Automatic some within (at_tick s calls left a)))
+  automatic_keeps size s calls some within a = keeps_tick calls calls s _ a (λ left is.
+      keeps_within calls calls size (record s { ticks = left }) _ (at_tick s calls left is a)
+      (at_made (record s { ticks = left }) calls size Automatic some within (omega (arith, is, a.few))
+      (at_tick s calls left is a)))
 
   pub entered_keeps : (s : State) (calls : List OpenCall) → At e s calls → Keeps e calls (call_entered s)
   entered_keeps s calls a = keeps_within calls calls 256 s _ a
-      (record { flag = a.flag; reads = a.reads; world = record { sized = a.world.sized; bytes = a.world.bytes } })
+      (record {
+        flag = a.flag;
+        reads = a.reads;
+        world = record { sized = a.world.sized; bytes = a.world.bytes };
+        few = a.few;
+      })
 
   pub at_left : (s : State) (calls : List OpenCall) → At e s calls → At e (call_left s) calls
-  at_left s calls a =
-      record { flag = a.flag; reads = a.reads; world = record { sized = a.world.sized; bytes = a.world.bytes } }
+  at_left s calls a = record {
+    flag = a.flag;
+    reads = a.reads;
+    world = record { sized = a.world.sized; bytes = a.world.bytes };
+    few = a.few;
+  }

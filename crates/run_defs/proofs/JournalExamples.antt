@@ -1,50 +1,14 @@
--- Journals with a line that does not fit, and the number of that line, from 0.
-use Rattle.std.proofs.Common.{◌≡◌, ℕ, List, [], ◌∷◌, ◌++◌, refl}
+-- Journals with a line that does not fit, and the number of that line, from 0: objects and library calls.
+use Rattle.std.proofs.Common.{◌≡◌, [], ◌∷◌, ◌++◌, refl}
 use Rattle.std.specs.Prelude.{codes, pos}
-use Rattle.critical_table.specs.declared.case.Case.TheVariants.{L1, L3, L5, L6, L7, L9, L11}
-use Rattle.critical_table.specs.declared.code.Code.TheVariants.{U01, U05}
-use Rattle.object_store.specs.declared.by.By.TheVariants.{Star, Store as StoreBy}
-use Rattle.object_store.specs.declared.class.Class.TheVariants.{Static, Automatic, Allocated}
-use Rattle.object_store.specs.declared.mark.Mark.TheVariants.{Literal, Const}
+use Rattle.object_store.specs.declared.class.Class.TheVariants.{Automatic, Allocated}
+use Rattle.object_store.specs.declared.mark.Mark.TheVariants.{Const}
 use Rattle.object_store.specs.Reach.{reach_table}
-use Rattle.lib_defs.specs.declared.shown.Shown.TheVariants.{Number, Function, Place, NoValue}
-use Rattle.run_defs.specs.declared.attempt.Attempt.{Attempt}
-use Rattle.run_defs.specs.declared.event.Event.{Event}
+use Rattle.lib_defs.specs.declared.shown.Shown.TheVariants.{Number, Function}
 use Rattle.run_defs.specs.declared.event.Event.TheVariants as event
-use Rattle.run_defs.specs.declared.outcome.End.TheVariants as end
-use Rattle.run_defs.specs.Evaluation.{whole}
 use Rattle.run_defs.specs.Judge.{Lawful, Unlawful, verdict}
-use Rattle.run_defs.proofs.ExampleRuns.{row, at_two}
-
--- Three lines: a static object of 8 bytes with the number 2, a literal of 5 bytes with 4, an automatic object with 6.
-abbrev begins : List Event
-begins =
-    event.Made 2 8 Static
-    ∷ event.Made 4 5 Static
-    ∷ event.Sealed 4 (record { at = 0; len = 5; mark = Literal })
-    ∷ event.Made 6 4 Automatic ∷ []
-
-abbrev exits : Event
-exits = event.Ended (end.Exited 0)
-
-abbrev stores : ℕ → ℕ → ℕ → Event
-stores object at len = event.Stored (record { object = object; at = at; len = len })
-
-abbrev attempt : ℕ → ℕ → Attempt
-attempt object len = record { place = whole object 4; len = len; align = 1; by = Star }
-
--- strcpy_s(p, 2, 4:0), where the object of p has the number
-abbrev begins_copy : ℕ → Event
-begins_copy object = event.Called (row 5) (Place object 0 ∷ Number (pos 2) ∷ Place 4 0 ∷ [])
-
-abbrev violates : ℕ → Event
-violates k = event.Violated (row 5) k
-
-abbrev gives : ℕ → Event
-gives n = event.Returned (row 5) (Number (pos n))
-
-abbrev aborts : Event
-aborts = event.HandlerCalled (codes "abort_handler_s")
+use Rattle.run_defs.proofs.ExampleRuns.{row}
+use Rattle.run_defs.proofs.ExampleLines.{begins, exits, stores, begins_copy, violates, gives, aborts}
 
 -- The end, after lines that fit.
 plain_end : verdict (begins ++ exits ∷ [])
@@ -133,7 +97,8 @@ unfolding reach_table
 to_none = refl
 
 -- A mark covers its bytes alone.
-to_const : verdict (begins ++ event.Sealed 6 (record { at = 1; len = 1; mark = Const }) ∷ stores 6 0 1 ∷ stores 6 2 2 ∷ stores 6 0 2 ∷ [])
+to_const : verdict (begins ++ event.Sealed 6 (record { at = 1; len = 1; mark = Const }) ∷ stores 6 0 1
+    ∷ stores 6 2 2 ∷ stores 6 0 2 ∷ [])
     ≡ Unlawful 7
 unfolding reach_table
 to_const = refl
@@ -147,7 +112,8 @@ seal_past_end = refl
 -- Library calls.
 
 -- A violation with all that belongs to it.
-violated : verdict (begins ++ begins_copy 2 ∷ violates 5 ∷ stores 2 0 1 ∷ aborts ∷ event.HandlerReturned ∷ gives 34 ∷ exits ∷ [])
+violated : verdict (begins ++ begins_copy 2 ∷ violates 5 ∷ stores 2 0 1 ∷ aborts ∷ event.HandlerReturned ∷ gives 34
+    ∷ exits ∷ [])
     ≡ Lawful
 unfolding reach_table
 violated = refl
@@ -171,13 +137,16 @@ unfolding reach_table
 late_action = refl
 
 -- The handler is not the one that was set last.
-wrong_handler : verdict (begins ++ begins_copy 2 ∷ violates 5 ∷ stores 2 0 1 ∷ event.HandlerCalled (codes "ignore_handler_s") ∷ [])
+wrong_handler : verdict (begins ++ begins_copy 2 ∷ violates 5 ∷ stores 2 0 1
+    ∷ event.HandlerCalled (codes "ignore_handler_s") ∷ [])
     ≡ Unlawful 7
 unfolding reach_table
 wrong_handler = refl
 
 -- The one set last is called.
-last_handler : verdict (begins ++ event.Called (row 20) [] ∷ event.HandlerSet (codes "h") ∷ event.Returned (row 20) (Function (codes "abort_handler_s")) ∷ begins_copy 0 ∷ violates 1 ∷ event.HandlerCalled (codes "h") ∷ exits ∷ [])
+last_handler : verdict (begins ++ event.Called (row 20) [] ∷ event.HandlerSet (codes "h")
+    ∷ event.Returned (row 20) (Function (codes "abort_handler_s")) ∷ begins_copy 0 ∷ violates 1
+    ∷ event.HandlerCalled (codes "h") ∷ exits ∷ [])
     ≡ Lawful
 unfolding reach_table
 last_handler = refl
@@ -243,13 +212,15 @@ unfolding reach_table
 other_row = refl
 
 -- A call is closed before the one around it.
-inner_first : verdict (begins ++ event.Called (row 49) [] ∷ begins_copy 2 ∷ event.Returned (row 49) (Number (pos 0)) ∷ [])
+inner_first : verdict (begins ++ event.Called (row 49) [] ∷ begins_copy 2 ∷ event.Returned (row 49) (Number (pos 0))
+    ∷ [])
     ≡ Unlawful 6
 unfolding reach_table
 inner_first = refl
 
 -- A handler runs in which a call is open: that call returns first.
-guest_handler : verdict (begins ++ begins_copy 0 ∷ violates 1 ∷ aborts ∷ event.Called (row 49) [] ∷ event.HandlerReturned ∷ [])
+guest_handler : verdict (begins ++ begins_copy 0 ∷ violates 1 ∷ aborts ∷ event.Called (row 49) []
+    ∷ event.HandlerReturned ∷ [])
     ≡ Unlawful 8
 unfolding reach_table
 guest_handler = refl
@@ -265,135 +236,3 @@ not_violated : verdict (begins ++ begins_copy 2 ∷ aborts ∷ [])
     ≡ Unlawful 5
 unfolding reach_table
 not_violated = refl
-
--- Traps, stops and ends.
-
--- A reach that fails: one byte too many.
-trapped : verdict (begins ++ event.ReachFailed L6 at_two (attempt 6 5) ∷ event.Ended (end.Trapped L6) ∷ [])
-    ≡ Lawful
-unfolding reach_table
-trapped = refl
-
--- Another case; a reach that does not fail; another end; no end; no trap.
-other_case : verdict (begins ++ event.ReachFailed L7 at_two (attempt 6 5) ∷ [])
-    ≡ Unlawful 4
-unfolding reach_table
-other_case = refl
-
-reached : verdict (begins ++ event.ReachFailed L6 at_two (attempt 6 4) ∷ [])
-    ≡ Unlawful 4
-unfolding reach_table
-reached = refl
-
-other_end : verdict (begins ++ event.ReachFailed L6 at_two (attempt 6 5) ∷ event.Ended (end.Trapped L1) ∷ [])
-    ≡ Unlawful 5
-unfolding reach_table
-other_end = refl
-
-goes_on : verdict (begins ++ event.ReachFailed L6 at_two (attempt 6 5) ∷ event.Died 6 ∷ [])
-    ≡ Unlawful 5
-unfolding reach_table
-goes_on = refl
-
-untold : verdict (begins ++ event.Ended (end.Trapped L6) ∷ [])
-    ≡ Unlawful 4
-unfolding reach_table
-untold = refl
-
--- A reach of a dead object.
-dead_reach : verdict (begins ++ event.Died 6 ∷ event.ReachFailed L1 at_two (attempt 6 4) ∷ event.Ended (end.Trapped L1) ∷ [])
-    ≡ Lawful
-unfolding reach_table
-dead_reach = refl
-
--- An undefined operation and its end.
-stopped : verdict (begins ++ event.Stopped U05 at_two ∷ event.Ended (end.Undefined U05) ∷ [])
-    ≡ Lawful
-unfolding reach_table
-stopped = refl
-
-other_stop : verdict (begins ++ event.Stopped U05 at_two ∷ event.Ended (end.Undefined U01) ∷ [])
-    ≡ Unlawful 5
-unfolding reach_table
-other_stop = refl
-
--- A call with 3 names a function, one with 6 none.
-called_type : verdict (begins ++ event.ValueFailed L3 at_two (Function (codes "g")) ∷ event.Ended (end.Trapped L3) ∷ [])
-    ≡ Lawful
-unfolding reach_table
-called_type = refl
-
-called_place : verdict (begins ++ event.ValueFailed L3 at_two (Place 6 0) ∷ [])
-    ≡ Unlawful 4
-unfolding reach_table
-called_place = refl
-
-called_function : verdict (begins ++ event.ValueFailed L6 at_two (Function (codes "g")) ∷ [])
-    ≡ Unlawful 4
-unfolding reach_table
-called_function = refl
-
--- A handler of another type, behind a violation.
-handler_type : verdict (begins ++ begins_copy 0 ∷ violates 1 ∷ event.ValueFailed L3 at_two (Function (codes "g")) ∷ event.Ended (end.Trapped L3) ∷ [])
-    ≡ Lawful
-unfolding reach_table
-handler_type = refl
-
-handler_null : verdict (begins ++ begins_copy 0 ∷ violates 1 ∷ event.ValueFailed L6 at_two (Place 0 0) ∷ [])
-    ≡ Unlawful 6
-unfolding reach_table
-handler_null = refl
-
--- free of an automatic object, outside of free, and of null.
-released : verdict (begins ++ event.Called (row 46) [] ∷ event.ValueFailed L9 at_two (Place 6 0) ∷ event.Ended (end.Trapped L9) ∷ [])
-    ≡ Lawful
-unfolding reach_table
-released = refl
-
-released_outside : verdict (begins ++ event.Called (row 43) [] ∷ event.ValueFailed L9 at_two (Place 6 0) ∷ [])
-    ≡ Unlawful 5
-unfolding reach_table
-released_outside = refl
-
-released_null : verdict (begins ++ event.Called (row 46) [] ∷ event.ValueFailed L9 at_two (Place 0 0) ∷ [])
-    ≡ Unlawful 5
-unfolding reach_table
-released_null = refl
-
--- free of an allocated object that is dead, or that lives.
-released_twice : verdict (begins ++ event.Made 9 1 Allocated ∷ event.Died 9 ∷ event.Called (row 46) [] ∷ event.ValueFailed L11 at_two (Place 9 0) ∷ event.Ended (end.Trapped L11) ∷ [])
-    ≡ Lawful
-unfolding reach_table
-released_twice = refl
-
-released_once : verdict (begins ++ event.Made 9 1 Allocated ∷ event.Called (row 46) [] ∷ event.ValueFailed L11 at_two (Place 9 0) ∷ [])
-    ≡ Unlawful 6
-unfolding reach_table
-released_once = refl
-
--- set_constraint_handler_s with an object, with a function.
-set_place : verdict (begins ++ event.Called (row 20) [] ∷ event.ValueFailed L9 at_two (Place 6 0) ∷ event.Ended (end.Trapped L9) ∷ [])
-    ≡ Lawful
-unfolding reach_table
-set_place = refl
-
-set_function : verdict (begins ++ event.Called (row 20) [] ∷ event.ValueFailed L9 at_two (Function (codes "g")) ∷ [])
-    ≡ Unlawful 5
-unfolding reach_table
-set_function = refl
-
--- printf's second argument, its format, and another row's argument.
-argument : verdict (begins ++ event.Called (row 52) [] ∷ event.ArgumentFailed at_two 2 ∷ event.Ended (end.Trapped L9) ∷ [])
-    ≡ Lawful
-unfolding reach_table
-argument = refl
-
-format : verdict (begins ++ event.Called (row 52) [] ∷ event.ArgumentFailed at_two 1 ∷ [])
-    ≡ Unlawful 5
-unfolding reach_table
-format = refl
-
-other_argument : verdict (begins ++ event.Called (row 50) [] ∷ event.ArgumentFailed at_two 2 ∷ [])
-    ≡ Unlawful 5
-unfolding reach_table
-other_argument = refl

@@ -1,6 +1,7 @@
 -- Objects without their bytes: what each change of the objects makes of them, and what they tell.
 use Rattle.std.proofs.Common.{◌≡◌, ℕ, zero, suc, ◌+◌, ◌<◌, ◌==◌, ◌||◌, ◌&&◌, Bool, true, false, not, cond, List, []}
-use Rattle.std.proofs.Common.{◌∷◌, ◌++◌, length, map, replicate, set, slice_get, Option, Some, None, refl, arith, ap, sym, ◌∙◌}
+use Rattle.std.proofs.Common.{◌∷◌, ◌++◌, length, map, replicate, set, slice_get, Option, Some, None, refl, arith, ap}
+use Rattle.std.proofs.Common.{sym, ◌∙◌}
 use Rattle.std.specs.Prelude.{nat_le}
 use Rattle.std.specs.Option.{option_map, option_map_or, option_and_then}
 use Rattle.std.specs.List.{list_any, drop-map}
@@ -17,30 +18,17 @@ use Rattle.object_store.specs.declared.by.By.{By}
 use Rattle.object_store.specs.declared.pointer.Pointer.{Pointer}
 use Rattle.object_store.specs.Object.{Object, number_of, place_of, numbered, object_of}
 use Rattle.object_store.specs.Storage.{Storage, is_live}
-use Rattle.object_store.specs.Steps.{stored_cell, new_object, next_number, with_new, update, with_dead, with_cells, range}
-use Rattle.object_store.specs.Steps.{mark_cell, with_mark, with_bytes}
+use Rattle.object_store.specs.Steps.{stored_cell, new_object, next_number, with_new, update, with_dead, with_cells}
+use Rattle.object_store.specs.Steps.{range, mark_cell, with_mark, with_bytes}
 use Rattle.object_store.specs.Ranges.{IsLiveRange}
 use Rattle.object_store.specs.Reach.{reach, IsReachedToStore}
 use Rattle.object_store.proofs.RangeLemmas.{in_range_to_store, with_bytes_at}
 use Rattle.object_store.proofs.CellLists.{length-range}
 use Rattle.object_store.proofs.SameReach.{marks, Alike, case_alike, marks-with_cells, marks-stored_cells, unmarked}
 use Rattle.object_store.proofs.SameReach.{plain_range}
-use Rattle.run_defs.specs.State.{static_object, with_object, has_range}
+use Rattle.run_defs.specs.State.{static_object, has_range}
 use Rattle.run_defs.specs.Fits.{is_marked, is_plain, is_store}
-
--- a cell without its byte
-abbrev pub outlined : Cell → Cell
-outlined c = record { byte = None; mark = c.mark }
-
-abbrev pub outline : Object → Object
-outline o = record o { cells = map outlined o.cells }
-
-abbrev pub outlines : List Object → List Object
-outlines objects = map outline objects
-
--- a store of these objects without their bytes, with nothing else
-abbrev pub outlined_store : List Object → Storage
-outlined_store objects = record { objects = outlines objects; budget = 0; open_calls = 0; writes = [] }
+use Rattle.run_defs.specs.Kept.{outlined, outline, outlines, outlined_store}
 
 -- Objects that are made.
 
@@ -143,10 +131,10 @@ remarked at len mark o = record o { cells = with_cells o.cells at (map (mark_cel
 remarked-outline : (at len : ℕ) (mark : Mark) (o : Object)
     → outline (remarked at len mark o) ≡ remarked at len mark (outline o)
 remarked-outline at len mark o = rw (
-      with_cells-outlined o.cells at (map (mark_cell mark) (range o.cells at len)),
-      marked-outlined mark (range o.cells at len),
-      range-outlined o.cells at len,
-    ) refl
+  with_cells-outlined o.cells at (map (mark_cell mark) (range o.cells at len)),
+  marked-outlined mark (range o.cells at len),
+  range-outlined o.cells at len,
+) refl
 
 pub outlines-mark : (s : Storage) (number at len : ℕ) (mark : Mark)
     → outlined_store (with_mark s number at len mark).objects ≡ with_mark (outlined_store s.objects) number at len mark
@@ -191,7 +179,8 @@ set_alike : (objects : List Object) (i : ℕ) (o new : Object) → slice_get obj
 set_alike objects i o new at same =
     map-set_same outline objects i new o (rw (get_or_from_slice_get objects i o o at) same)
 
-module _ (s : Storage) (place : Pointer) (bytes : List (Option ℕ)) (reached : IsReachedToStore s place (length bytes)) where
+module _ (s : Storage) (place : Pointer) (bytes : List (Option ℕ))
+    (reached : IsReachedToStore s place (length bytes)) where
   its_range : IsLiveRange s.objects place (length bytes)
   its_range = in_range_to_store s place (length bytes) reached
 
@@ -241,7 +230,7 @@ pub is_store-outlines : (s : Storage) (place : Pointer) (bytes : List (Option �
     → is_store (outlined_store s.objects) (record { object = place.object; at = place.offset; len = length bytes })
     ≡ true
 is_store-outlines s place bytes reached some = rw (
-      has_range-outlines s place.object place.offset (length bytes),
-      test-outlines (is_plain place.offset (length bytes)) (is_plain-outline place.offset (length bytes)) s.objects
+  has_range-outlines s place.object place.offset (length bytes),
+  test-outlines (is_plain place.offset (length bytes)) (is_plain-outline place.offset (length bytes)) s.objects
       place.object,
-    ) (its_store s place bytes reached some)
+) (its_store s place bytes reached some)

@@ -1,11 +1,10 @@
 -- The worlds of a run: objects keep the sizes that a store makes, and the input stays bytes.
-use Rattle.std.proofs.Common.{◌≡◌, ℕ, ◌+◌, ◌≤◌, ◌<◌, List, [], ◌∷◌, ◌++◌, length, map, set, slice_get, Option, Some, None, refl}
-use Rattle.std.proofs.Common.{false, arith, subst, sym, length-append, length-drop}
+use Rattle.std.proofs.Common.{◌≡◌, ℕ, ◌≤◌, ◌<◌, List, [], ◌∷◌, ◌++◌, length, map, set, slice_get, Option, Some, None}
+use Rattle.std.proofs.Common.{refl, false, arith, subst, length-append, length-drop}
 use Rattle.std.specs.Option.{option_map_or}
 use Rattle.std.specs.List.{All}
-use Rattle.std.proofs.lemmas.List.{length-map, length-take, length-replicate}
-use Rattle.std.proofs.lemmas.List.Elements.{All-nil, All-cons, All-head, All-tail, All-push, All-set, All-map}
-use Rattle.std.proofs.lemmas.List.Elements.{All-same}
+use Rattle.std.proofs.lemmas.List.{length-map, length-take, length-replicate, length-set}
+use Rattle.std.proofs.lemmas.List.Elements.{All-nil, All-cons, All-head, All-tail, All-push, All-set, All-map, All-same}
 use Rattle.std.proofs.lemmas.Option.{slice_get_within, get_or_from_slice_get}
 use Rattle.object_store.specs.declared.class.Class.{Class}
 use Rattle.object_store.specs.declared.cell.Cell.{Cell}
@@ -20,12 +19,14 @@ use Rattle.lib_defs.specs.Units.{rsize_max}
 use Rattle.lib_defs.specs.World.{Streams, Flows}
 use Rattle.lib_defs.specs.Laws.{IsSized}
 use Rattle.run_defs.specs.State.{static_object}
-use Rattle.run_defs.proofs.Outlines.{outlined, outline, outlines, outlines-stored}
+use Rattle.run_defs.specs.Kept.{outlined, outline, outlines}
+use Rattle.run_defs.proofs.Outlines.{outlines-stored}
 
 abbrev pub Sized : Object → Type 0
 Sized o = length o.cells ≤ rsize_max
 
-pub sized_new : (s : Storage) (size : ℕ) (class : Class) → size ≤ rsize_max → IsSized s → IsSized (with_new s size class)
+pub sized_new : (s : Storage) (size : ℕ) (class : Class) → size ≤ rsize_max → IsSized s
+    → IsSized (with_new s size class)
 sized_new s size class le sized =
     All-push Sized s.objects (new_object size class) sized (rw (length-replicate size (stored_cell None)) le)
 
@@ -48,6 +49,16 @@ module _ (f : Object → Object) (keeps : (o : Object) → Sized o → Sized (f 
   sized_update objects number sized =
       sized_found objects (place_of number) sized (slice_get objects (place_of number)) refl
 
+-- no object comes or goes where one is changed
+pub length-update : (objects : List Object) (number : ℕ) (f : Object → Object)
+    → length (update objects number f) ≡ length objects
+length-update objects number f = by_found (slice_get objects (place_of number))
+  where
+    by_found : (found : Option Object)
+        → length (option_map_or (λ (o : Object). set objects (place_of number) (f o)) found objects) ≡ length objects
+    by_found None = refl
+    by_found (Some o) = length-set objects (place_of number) (f o)
+
 pub sized_dead : (s : Storage) (number : ℕ) → IsSized s → IsSized (with_dead s number)
 sized_dead s number sized = sized_update (λ o. record o { live = false }) (λ o le. le) s.objects number sized
 
@@ -55,6 +66,19 @@ length-remarked : (cs : List Cell) (at len : ℕ) (mark : Mark)
     → length (with_cells cs at (map (mark_cell mark) (range cs at len))) ≡ length cs
 length-remarked cs at len mark =
     rw (length-append, length-append, length-map, length-take, length-take, length-drop, length-drop) (omega arith)
+
+pub length-dead : (s : Storage) (number : ℕ) → length (with_dead s number).objects ≡ length s.objects
+length-dead s number = length-update s.objects number (λ o. record o { live = false })
+
+pub length-mark : (s : Storage) (number at len : ℕ) (mark : Mark)
+    → length (with_mark s number at len mark).objects ≡ length s.objects
+length-mark s number at len mark = length-update s.objects number
+    (λ o. record o { cells = with_cells o.cells at (map (mark_cell mark) (range o.cells at len)) })
+
+pub length-stored : (objects : List Object) (place : Pointer) (bytes : List (Option ℕ))
+    → length (with_bytes objects place bytes) ≡ length objects
+length-stored objects place bytes = length-update objects place.object
+    (λ o. record o { cells = with_cells o.cells place.offset (map stored_cell bytes) })
 
 pub sized_mark : (s : Storage) (number at len : ℕ) (mark : Mark) → IsSized s → IsSized (with_mark s number at len mark)
 sized_mark s number at len mark sized = sized_update

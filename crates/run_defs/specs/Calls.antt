@@ -10,7 +10,8 @@ use Rattle.run_defs.specs.Evaluation.{Evaluation, Gives, Stops, bind, ticked}
 use Rattle.run_defs.specs.Functions.{Environment}
 use Rattle.run_defs.specs.Served.{Served, Answers, Wants, begun, continued}
 
--- What the function of the unit with this number does at these arguments, behind the tick of its call; with the place of
+-- What the function of the unit with this number does at these arguments, behind the tick of its call; with the place
+-- of
 -- the call. A function that ends without a value gives Nothing.
 abbrev pub Enter : Type 0
 Enter = ℕ → List Value → Pos → State → Evaluation Value
@@ -22,7 +23,8 @@ completed e n enter (Stops outcome s) = Stops outcome s
 completed e n enter (Gives (Answers value) s) = Gives value s
 completed e zero enter (Gives (Wants function arguments suspended) s) = Stops OutOfTicks s
 completed e (suc n) enter (Gives (Wants function arguments suspended) s) =
-    bind (enter function arguments suspended.call.pos s) (λ value s1. completed e n enter (continued e suspended value s1))
+    bind (enter function arguments suspended.call.pos s)
+    (λ value s1. completed e n enter (continued e suspended value s1))
 
 -- A library call: its tick, and then its row.
 abbrev pub library_call : Environment → ℕ → Enter → LibraryCall → List Arg → State → Evaluation Value

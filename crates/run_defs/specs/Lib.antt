@@ -13,3 +13,4 @@ pub mod Lines
 pub mod Fits
 pub mod Replay
 pub mod Judge
+pub mod Kept

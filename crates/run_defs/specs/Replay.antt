@@ -3,8 +3,7 @@
 use Rattle.std.specs.Prelude.{◌≡◌, ℕ, nat_le, Bool, true, false, not, ◌&&◌, ◌||◌, List, [], ◌∷◌, Option, Some, None}
 use Rattle.std.specs.Prelude.{codes, if◌then◌else◌}
 use Rattle.std.specs.Option.{option_and_then}
-use Rattle.std.specs.Str.{bytes_eq}
-use Rattle.std.specs.Str.{bytes_eq}
+use Rattle.std.specs.Str.{bytes_eq, bytes_eq}
 use Rattle.critical_table.specs.declared.case.Case.{Case}
 use Rattle.critical_table.specs.declared.case.Case.TheVariants.{L3, L9}
 use Rattle.object_store.specs.declared.writes.Write.{Write}

@@ -1,6 +1,5 @@
 -- A library call, up to where a function of the unit is wanted. The meaning and the machine both cite it.
-use Rattle.std.specs.Prelude.{ℕ, Bool, true, false, not, ◌&&◌, List, [], ◌∷◌}
-use Rattle.std.specs.Prelude.{Option, Some, None, is_none}
+use Rattle.std.specs.Prelude.{ℕ, Bool, true, false, not, ◌&&◌, List, [], ◌∷◌, Option, Some, None, is_none}
 use Rattle.critical_table.specs.declared.case.Case.TheVariants.{L3, L6, L9}
 use Rattle.critical_table.specs.declared.pos.Pos.{Pos}
 use Rattle.object_store.specs.declared.class.Class.TheVariants.{Allocated}
@@ -14,8 +13,8 @@ use Rattle.lib_defs.specs.declared.value.Value.{Value}
 use Rattle.lib_defs.specs.declared.value.Value.TheVariants.{Num, Ptr}
 use Rattle.lib_defs.specs.declared.violation.Violation.{Violation}
 use Rattle.lib_defs.specs.Violations.{errno_of, message_place}
-use Rattle.lib_defs.specs.Reply.{Fill, Change, Stop, FailsReach, FailsValue, FailsArgument, IsUndefined, Ends, Did, Done}
-use Rattle.lib_defs.specs.Reply.{Broken, Asks, Fails, patch_of, null}
+use Rattle.lib_defs.specs.Reply.{Fill, Change, Stop, FailsReach, FailsValue, FailsArgument, IsUndefined, Ends, Did}
+use Rattle.lib_defs.specs.Reply.{Done, Broken, Asks, Fails, patch_of, null}
 use Rattle.lib_defs.specs.Columns.{is_null}
 use Rattle.lib_defs.specs.Shown.{line_values}
 use Rattle.lib_defs.specs.World.{Reply}

@@ -7,8 +7,7 @@ use Rattle.object_store.specs.declared.class.Class.TheVariants.{Static}
 use Rattle.object_store.specs.declared.pointer.Pointer.{Pointer}
 use Rattle.object_store.specs.Object.{Object, object_of}
 use Rattle.object_store.specs.Storage.{Storage, is_live}
-use Rattle.object_store.specs.Steps.{stored_cell, next_number, with_new, with_dead, with_mark, with_bytes}
-use Rattle.object_store.specs.Steps.{without_call}
+use Rattle.object_store.specs.Steps.{stored_cell, next_number, with_new, with_dead, with_mark, with_bytes, without_call}
 use Rattle.lib_defs.specs.Reply.{Patch}
 use Rattle.lib_defs.specs.World.{Streams, World}
 use Rattle.run_defs.specs.declared.event.Event.{Event}
