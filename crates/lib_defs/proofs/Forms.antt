@@ -201,9 +201,9 @@ error_length_gives s errnum = let short = error_short errnum in
     size_given (length (error_text errnum)) (omega (arith, short))
 
 -- the second argument, where it is a size
-size_value : (k : ArgKind) (v : Value) → k ≡ kind.ULong → IsGiven (given_by k) v
+size_value : (k : ArgKind) (v : Value) → given_by k ≡ size_t → IsGiven (given_by k) v
     → count (v ∷ []) 0 ≤ 18446744073709551615
-size_value k v e h = at_value v (subst (λ k. IsGiven (given_by k) v) e h)
+size_value k v e h = at_value v (subst (λ given. IsGiven given v) e h)
   where
     at_value : (v : Value) → IsGiven size_t v → count (v ∷ []) 0 ≤ 18446744073709551615
     at_value (Num (pos n)) h = let g = h.greatest in omega (arith, ints, g)

@@ -115,13 +115,14 @@ abbrev pub AreValues : List Arg → Type 0
 AreValues [] = Unit {0}
 AreValues (a ∷ args) = IsGiven (given_by a.kind) a.value × AreValues args
 
--- the arguments begin with these kinds, and no further ones stand behind unless they may
+-- The arguments begin with ones of these kinds, or of kinds with the same values, and no further ones stand behind
+-- unless they may. A pointer of either kind is a pointer.
 abbrev pub AreKinds : List ArgKind → Bool → List Arg → Type 0
 AreKinds [] true args = Unit {0}
 AreKinds [] false [] = Unit {0}
 AreKinds [] false (a ∷ args) = ⊥
 AreKinds (k ∷ kinds) variadic [] = ⊥
-AreKinds (k ∷ kinds) variadic (a ∷ args) = (a.kind ≡ k) × AreKinds kinds variadic args
+AreKinds (k ∷ kinds) variadic (a ∷ args) = (given_by a.kind ≡ given_by k) × AreKinds kinds variadic args
 
 -- The arguments fit the prototype.
 pub record FitPrototype (p : Prototype) (args : List Arg) : Type 0 where
