@@ -1,5 +1,7 @@
 -- The definitions, in the order in which they are read.
 pub mod Contents
+pub mod Built
+pub mod Inner
 pub mod Accesses
 pub mod Pointers
 pub mod Operators
