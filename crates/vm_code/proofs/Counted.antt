@@ -36,15 +36,17 @@ state_of other (Goes frames s) = other
 state_of other (Ends outcome s) = s
 state_of other Stuck = other
 
-ends_state : (reached : Outcome) (there : State) (outcome : Outcome) (s : State) → Ends reached there ≡ Ends outcome s
+pub ends_state : (reached : Outcome) (there : State) (outcome : Outcome) (s : State)
+    → Ends reached there ≡ Ends outcome s
     → there ≡ s
 unfolding state_of
 ends_state reached there outcome s same = ap (state_of there) same
 
-stuck_ends : (outcome : Outcome) (s : State) → Stuck ≡ Ends outcome s → ⊥
+pub stuck_ends : (outcome : Outcome) (s : State) → Stuck ≡ Ends outcome s → ⊥
 stuck_ends outcome s same = cc
 
-goes_ends : (frames : List Frame) (there : State) (outcome : Outcome) (s : State) → Goes frames there ≡ Ends outcome s
+pub goes_ends : (frames : List Frame) (there : State) (outcome : Outcome) (s : State)
+    → Goes frames there ≡ Ends outcome s
     → ⊥
 goes_ends frames there outcome s same = cc
 

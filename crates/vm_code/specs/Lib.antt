@@ -10,6 +10,7 @@ pub mod Frames
 pub mod CodeFunctions
 pub mod Calling
 pub mod Machine
+pub mod OneEnd
 pub mod OperandKinds
 pub mod Sound
 pub mod Ways
