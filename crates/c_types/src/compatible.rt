@@ -1,6 +1,6 @@
 //! Compatible types: the test, and its laws.
 
-ghost use Rattle.std.specs.Prelude.{◌≡◌, ◌<◌, true};
+ghost use Rattle.std.specs.Prelude.{◌≡◌, ◌<◌, true, false};
 ghost use Rattle.c_types.specs.Types.{count_of};
 ghost use Rattle.c_types.specs.CType.{CType, type_of};
 ghost use Rattle.c_types.specs.Functions.{IsFunction, parameters_of};
@@ -21,6 +21,16 @@ impl TypeTable {
         ensures { result ≡ compatible (type_of self.now a) (type_of self.now b) }
     {
         self.agree(a, b, true)
+    }
+
+    /// The types are compatible, whatever their outermost qualifiers are; of arrays those of their elements
+    /// (6.7.6.3p15).
+    pub fn compatible_unqualified(&self, a: TypeId, b: TypeId) -> bool
+        requires a { a.0 < count_of self.now }
+        requires b { b.0 < count_of self.now }
+        ensures { result ≡ agree (type_of self.now a) (type_of self.now b) false }
+    {
+        self.agree(a, b, false)
     }
 
     // The types are compatible, where the outermost qualifiers count only if `strict`. It ends, since the parts of

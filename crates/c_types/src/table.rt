@@ -66,6 +66,11 @@ impl TypeTable {
         })
     }
 
+    /// The allocator by which the table grows.
+    pub fn alloc(&self) -> Global {
+        self.alloc
+    }
+
     // One more type, unless it has too many parts.
     pub(crate) fn push(&mut self, next: Made) -> Result<TypeId, AllocError>
         requires refers { RefersBelow self.old (count_of self.old) next.shape }

@@ -18,9 +18,13 @@ fn functions_are_compatible_without_the_qualifiers_of_parameters(
     let int = table.basic(Basic::Int);
     let constant = table.qualified(int, CONST)?;
     let plain = table.function(int, &[int], false)?;
-    let other = table.function(int, &[constant], false)?;
+    let parameters = Vec::from_slice(table.alloc(), &[constant])?;
+    let other = table.function(int, &parameters, false)?;
     assert!(rt; table.compatible(other, plain));
     assert!(rt; !table.compatible(int, constant));
+    assert!(rt; table.compatible_unqualified(int, constant));
+    let (to_int, to_constant) = (table.pointer(int)?, table.pointer(constant)?);
+    assert!(rt; !table.compatible_unqualified(to_int, to_constant));
     let composite = table.composite(other, plain)?;
     assert!(rt; matches!(table.shape(composite), Shape::Function(_)));
     Ok(())
@@ -73,5 +77,28 @@ fn has_const(alloc: Global, constant: bool) -> Result<bool, Fail> {
 fn a_const_member_is_found_in_an_array(rt: HostRuntime) -> Result<(), Fail> {
     assert!(rt; has_const(rt.alloc(), true)?);
     assert!(rt; !has_const(rt.alloc(), false)?);
+    Ok(())
+}
+
+#[test]
+fn versions_of_compatible_types_are_compatible_whatever_their_qualifiers_are(
+    rt: HostRuntime,
+) -> Result<(), Fail> {
+    let mut table = TypeTable::new(rt.alloc())?;
+    let int = table.basic(Basic::Int);
+    let constant = table.qualified(int, CONST)?;
+    let (to_int, to_constant) = (table.pointer(int)?, table.pointer(constant)?);
+    assert!(rt; table.compatible_unqualified(int, constant));
+    assert!(rt; !table.compatible_unqualified(to_int, to_constant));
+    Ok(())
+}
+
+#[test]
+fn what_the_allocator_of_a_table_makes_outlives_it(rt: HostRuntime) -> Result<(), Fail> {
+    let table = TypeTable::new(rt.alloc())?;
+    let mut ids = Vec::new(table.alloc());
+    ids.push(table.basic(Basic::Int))?;
+    drop(table);
+    assert_eq!(rt; ids.len(), 1);
     Ok(())
 }

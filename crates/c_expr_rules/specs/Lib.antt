@@ -1,0 +1,13 @@
+-- The definitions of the crate, in reading order.
+pub mod Targets
+pub mod Uses
+pub mod Primary
+pub mod Unary
+pub mod Pointers
+pub mod Members
+pub mod Binary
+pub mod Comparisons
+pub mod Conditional
+pub mod Assignment
+pub mod Casts
+pub mod Calls

@@ -1,0 +1,5 @@
+pub mod Found
+pub mod Least
+pub mod Growth
+pub mod Seen
+pub mod Keeps

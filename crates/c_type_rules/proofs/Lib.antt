@@ -1,0 +1,4 @@
+pub mod Elements
+pub mod Given
+pub mod RuleExamples
+pub mod WordExamples
