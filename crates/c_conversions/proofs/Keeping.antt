@@ -1,5 +1,5 @@
 -- What a table keeps as types are made: what is made of a type and an expression that were there before.
-use Rattle.std.proofs.Common.{◌≡◌, ◌∙◌}
+use Rattle.std.proofs.Common.{◌≡◌, ◌∙◌, ap}
 use Rattle.c_types.specs.declared.shape.TypeId.{TypeId}
 use Rattle.c_types.specs.CType.{type_of}
 use Rattle.c_types.specs.Types.{Types}
@@ -41,6 +41,17 @@ pub over : {A B C D X : Type 0} {view : Types → B → A} {In : Types → B →
     → Makes view2 In2 (build a x) old new d
 over {old = old} {mid = mid} {new = new} build first same second = record {
   is = second.is ∙ (λ i. build (first.is i) (same i));
+  is_in = second.is_in;
+  kept = keeps_then old mid new first.kept second.kept;
+}
+
+-- the same where nothing else is needed
+pub over_made : {A B C D : Type 0} {view : Types → B → A} {In : Types → B → Type 0} {view2 : Types → D → C}
+    {In2 : Types → D → Type 0} {a : A} {b : B} {d : D} {old mid new : Types} (build : A → C)
+    → Makes view In a old mid b → Makes view2 In2 (build (view mid b)) mid new d
+    → Makes view2 In2 (build a) old new d
+over_made {old = old} {mid = mid} {new = new} build first second = record {
+  is = second.is ∙ ap build first.is;
   is_in = second.is_in;
   kept = keeps_then old mid new first.kept second.kept;
 }

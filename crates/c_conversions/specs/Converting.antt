@@ -74,8 +74,8 @@ pointer_as type part = At type (pos_in part.core) (pointer_node (is_null part) p
 abbrev pub is_integer_or_truth : CType → CType → Bool
 is_integer_or_truth to from = (is_integer to && is_integer from) || (is_basic to b.Bool && is_pointer from)
 
--- The value may be assigned to an object of this type (6.5.16.1p1): integers to integers; a structure or union to one of
--- a compatible type; a pointer to a pointer that it may become; a null pointer constant to a pointer; a pointer to
+-- The value may be assigned to an object of this type (6.5.16.1p1): integers to integers; a structure or union to one
+-- of a compatible type; a pointer to a pointer that it may become; a null pointer constant to a pointer; a pointer to
 -- `_Bool`.
 abbrev pub converts : CType → Part → Bool
 converts (Plain (Pointer to) quals) part = is_null part || pointer_converts to (pointee (type_in part.core))

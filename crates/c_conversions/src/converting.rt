@@ -14,7 +14,9 @@ use crate::content::size;
 use crate::kind::{int_kind, integer, is_basic, is_integer, promoted};
 use crate::operand::Operand;
 use crate::value::pointer_to;
-use crate::versions::{are_versions, has_quals_of, is_compound, is_function, is_pointer, is_void, pointee};
+use crate::versions::{
+    are_versions, has_quals_of, is_compound, is_function, is_pointer, is_void, pointee,
+};
 use c_core::{CoreExpr, CoreNode, constant};
 use c_types::{Basic, Shape, TypeId, TypeTable};
 use critical_table::Pos;
@@ -203,11 +205,7 @@ fn assigned_pointer(
 }
 
 /// A value that is stored as that type (6.5.16.1p2).
-pub fn assigned(
-    types: &mut TypeTable,
-    to: TypeId,
-    operand: Operand,
-) -> Result<CoreExpr, AllocError>
+pub fn assigned(types: &mut TypeTable, to: TypeId, operand: Operand) -> Result<CoreExpr, AllocError>
     requires to { to.0 < count_of types.old }
     requires operand { PartIn types.old operand }
     ensures { IfOk result (Makes core_of CoreIn (spec.assigned (type_of types.old to) (part_of types.old operand))

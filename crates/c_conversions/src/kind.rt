@@ -72,7 +72,8 @@ pub fn promoted(basic: Basic) -> Basic
     }
 }
 
-fn rank(basic: Basic) -> u8
+/// The conversion rank of a promoted type: 1 for `int`, 2 for `long`, 3 for `long long` (6.3.1.1p1).
+pub fn rank(basic: Basic) -> u8
     ensures { result ≡ spec.rank basic }
 {
     match basic {

@@ -5,5 +5,7 @@ pub mod content;
 pub mod converting;
 pub mod kind;
 pub mod operand;
+#[cfg(test)]
+mod tests;
 pub mod value;
 pub mod versions;

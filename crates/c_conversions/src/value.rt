@@ -1,7 +1,9 @@
 //! Expressions as values (6.3.2.1).
-ghost use Rattle.std.specs.Prelude.{◌≡◌, ◌<◌, IfOk};
+ghost use Rattle.std.specs.Prelude.{◌≡◌, ◌<◌, true, IfOk};
 ghost use Rattle.c_types.specs.CType.{type_of};
-ghost use Rattle.c_types.specs.Qualified.{without_quals};
+ghost use Rattle.c_types.specs.Compatible.{compatible};
+ghost use Rattle.c_types.specs.Composite.{composite_of};
+ghost use Rattle.c_types.specs.Qualified.{with_quals, without_quals};
 ghost use Rattle.c_types.specs.Structures.{structures_of};
 ghost use Rattle.c_types.specs.Types.{count_of};
 ghost use Rattle.c_core.specs.Ids.{CoreIn, IdIn};
@@ -9,13 +11,14 @@ ghost use Rattle.c_core.specs.Tree.{At};
 ghost use Rattle.c_core.specs.View.{core_of};
 ghost use Rattle.c_scopes.specs.Clauses.{Makes};
 ghost use Rattle.c_conversions.specs.Kinds as kinds;
+ghost use Rattle.c_conversions.specs.Versions.{own_unqualified};
 ghost use Rattle.c_conversions.specs.Parts as spec;
 ghost use Rattle.c_conversions.specs.Parts.{part_of, PartIn};
 
 use crate::content::scalar;
 use crate::operand::{Category, Operand};
 use c_core::{CoreExpr, CoreNode, Scalar};
-use c_types::{Layout, Shape, TypeId, TypeTable};
+use c_types::{Layout, Quals, Shape, TypeId, TypeTable};
 use std::alloc::AllocError;
 
 /// A pointer to that type.
@@ -32,6 +35,37 @@ pub fn unqualified(types: &mut TypeTable, of: TypeId) -> Result<TypeId, AllocErr
     ensures { IfOk result (Makes type_of IdIn (without_quals (type_of types.old of)) types.old types.new) }
 {
     types.unqualified(of)
+}
+
+/// A type with more qualifiers.
+pub fn qualified(types: &mut TypeTable, of: TypeId, quals: Quals) -> Result<TypeId, AllocError>
+    requires { of.0 < count_of types.old }
+    ensures { IfOk result (Makes type_of IdIn (with_quals quals (type_of types.old of)) types.old types.new) }
+{
+    types.qualified(of, quals)
+}
+
+/// The type without the qualifiers that it has itself; an array stays as it is (6.7.3p9).
+#[tactic(auto, using(c_scopes::proofs::Keeps::keeps_own))]
+pub fn own_unqualified(types: &mut TypeTable, of: TypeId) -> Result<TypeId, AllocError>
+    requires { of.0 < count_of types.old }
+    ensures { IfOk result (Makes type_of IdIn (own_unqualified (type_of types.old of)) types.old types.new) }
+{
+    match types.shape(of) {
+        Shape::Array(_, _) => Ok(of),
+        _ => types.unqualified(of),
+    }
+}
+
+/// The composite type of two compatible types (6.2.7p3).
+pub fn composite(types: &mut TypeTable, a: TypeId, b: TypeId) -> Result<TypeId, AllocError>
+    requires a { a.0 < count_of types.old }
+    requires b { b.0 < count_of types.old }
+    requires compatible { compatible (type_of types.old a) (type_of types.old b) ≡ true }
+    ensures { IfOk result (Makes type_of IdIn (composite_of (type_of types.old a) (type_of types.old b))
+        types.old types.new) }
+{
+    types.composite(a, b)
 }
 
 // What an object that is no array holds, as a value of that type.

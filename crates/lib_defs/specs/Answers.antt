@@ -7,7 +7,7 @@ use Rattle.lib_defs.specs.declared.handler.Handler.{Handler}
 use Rattle.lib_defs.specs.declared.step.LibStep.{LibStep}
 use Rattle.lib_defs.specs.declared.step.LibStep.TheVariants as step
 use Rattle.lib_defs.specs.Reply.{step_of, store_after, handler_after}
-use Rattle.lib_defs.specs.World.{Streams, World, Reply, world}
+use Rattle.lib_defs.specs.World.{Input, World, Reply, world}
 
 -- the answers that a fault of the source, or of a sink, is the cause of
 abbrev pub is_read_fault : LibStep → Bool
@@ -25,40 +25,59 @@ pub record Counts (is_fault : Bool) (before now : ℕ) : Type 0 where
   pub cause : is_fault ≡ true → FaultCounted before now
   pub kept : is_fault ≡ false → now ≡ before
 
--- written is what was there before with a front of what is due
-pub record IsFront (before written due : List ℕ) : Type 0 where
-  pub gained : List ℕ
-  pub begins : written ≡ before ++ gained
-  pub rest : List ℕ
-  pub front : due ≡ written ++ rest
+-- What may be of the streams, as far as a source and sinks tell: the input that is still to come, and the output and
+-- the error output so far. Of a source or a sink that tells nothing all may be.
+pub record Sight : Type 1 where
+  pub comes : Input → Type 0
+  pub wrote : (output err : List ℕ) → Type 0
 
--- The step is that of the reply, and its changes are made.
-pub record IsReply (reply : Reply) (before now : World) (answer : LibStep) : Type 0 where
+-- the same may be
+pub record SameSight (old new : Sight) : Type 0 where
+  pub comes : (input : Input) → old.comes input ↔ new.comes input
+  pub wrote : (output err : List ℕ) → old.wrote output err ↔ new.wrote output err
+
+-- what a call leaves of a world beside output and error output
+pub record Left : Type 0 where
+  pub store : Storage
+  pub handler : Handler
+  pub input : Input
+
+-- The step is that of the reply, and its changes are made: it may be that what the reply writes was written.
+pub record IsReply (reply : Reply) (before : World) (now : Left) (new : Sight) (answer : LibStep) : Type 0 where
   pub step : answer ≡ step_of reply.did
   pub store : now.store ≡ store_after reply.did before.store
   pub handler : now.handler ≡ handler_after reply.did before.handler
-  pub streams : now.streams ≡ reply.streams
+  pub input : now.input ≡ reply.streams.input
+  pub wrote : new.wrote reply.streams.output reply.streams.err
 
--- A write fails: output and error output are cut short, and nothing else is changed.
-pub record IsCut (reply : Reply) (before now : World) : Type 0 where
+-- written is a front of what is due
+pub record IsFront (written due : List ℕ) : Type 0 where
+  pub rest : List ℕ
+  pub front : due ≡ written ++ rest
+
+-- A write fails: it may be that output and error output were cut short, in what was held back by earlier calls too. No
+-- more is changed.
+pub record IsCut (reply : Reply) (before : World) (now : Left) (new : Sight) : Type 0 where
   pub store : now.store ≡ before.store
   pub handler : now.handler ≡ before.handler
-  pub output : IsFront before.streams.output now.streams.output reply.streams.output
-  pub err : IsFront before.streams.err now.streams.err reply.streams.err
+  pub output : List ℕ
+  pub err : List ℕ
+  pub wrote : new.wrote output err
+  pub front : IsFront output reply.streams.output
+  pub told : IsFront err reply.streams.err
 
-abbrev pub AnswersAt : Bool → Reply → World → World → LibStep → Type 0
-AnswersAt true reply before now answer = IsCut reply before now
-AnswersAt false reply before now answer = IsReply reply before now answer
+abbrev pub AnswersAt : Bool → Reply → World → Left → Sight → LibStep → Type 0
+AnswersAt true reply before now new answer = IsCut reply before now new
+AnswersAt false reply before now new answer = IsReply reply before now new answer
 
--- Whatever the streams may be now, they may have been such before that the answer is the reply in that world.
-abbrev pub Answers : (World → Reply) → (old new : Streams → Type 0) → (store_old store_new : Storage)
+-- Whatever input may come now, one may have come before that the answer is the reply in that world, whatever output and
+-- error output may have been there. So input is known by what was taken of it, and output by what was written.
+abbrev pub Answers : (World → Reply) → (old new : Sight) → (store_old store_new : Storage)
     → (handler_old handler_new : Handler) → LibStep → Type 0
-Answers reply old new store_old store_new handler_old handler_new answer = (now : Streams) → new now
-    → (before : Streams) × old before
-    × AnswersAt (is_write_fault answer) (reply (world store_old handler_old before))
-    (world store_old handler_old before)
-    (world store_new handler_new now) answer
-
--- the streams may be the same
-abbrev pub SameStreams : (old new : Streams → Type 0) → Type 0
-SameStreams old new = (s : Streams) → old s ↔ new s
+Answers reply old new store_old store_new handler_old handler_new answer = (now : Input) → new.comes now
+    → (before : Input) × old.comes before
+    × ((output err : List ℕ) → old.wrote output err
+    → AnswersAt (is_write_fault answer)
+    (reply (world store_old handler_old (record { input = before; output = output; err = err })))
+    (world store_old handler_old (record { input = before; output = output; err = err }))
+    (record { store = store_new; handler = handler_new; input = now }) new answer)

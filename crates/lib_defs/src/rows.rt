@@ -1,11 +1,11 @@
 //! The rows of a program.
-ghost use Rattle.std.specs.Prelude.{◌≡◌, ℕ, ◌<◌, [], false, length, IfOk, OnErr};
+ghost use Rattle.std.specs.Prelude.{◌≡◌, ℕ, ◌<◌, List, [], false, length, IfOk, OnErr};
 ghost use Rattle.lib_defs.specs.RowNumbers.{IsRow};
 ghost use Rattle.lib_defs.specs.Prototypes.{FitRow};
-ghost use Rattle.lib_defs.specs.World.{Streams};
+ghost use Rattle.lib_defs.specs.World.{Input};
 ghost use Rattle.lib_defs.specs.Library.{Library, IsAsked};
 ghost use Rattle.lib_defs.specs.Laws.{KeepsLaws};
-ghost use Rattle.lib_defs.specs.Answers.{Answers, SameStreams, Counts, is_read_fault, is_write_fault};
+ghost use Rattle.lib_defs.specs.Answers.{Sight, SameSight, Answers, Counts, is_read_fault, is_write_fault};
 
 use crate::args::Args;
 use crate::handler::Handler;
@@ -20,8 +20,8 @@ pub trait Rows {
     /// What each row answers, as plain data.
     ghost meaning: { Library };
 
-    /// What may be still to come of the input, with the output and the error output so far.
-    ghost may_be: { Self → Streams → Type 0 };
+    /// What may be still to come of the input, and what may have been written of the output and the error output.
+    ghost sight: { Self → Sight };
 
     /// No write has failed.
     ghost is_writable: { Self → Type 0 };
@@ -49,8 +49,8 @@ pub trait Rows {
         requires few { length store.old.objects < 2004194305 }
         requires writable { is_writable self.old }
 
-        ensures answer { IfOk result (λ step. Answers (meaning.call row args.now.list) (may_be self.old)
-            (may_be self.new) store.old store.new handler.old handler.new step) }
+        ensures answer { IfOk result (λ step. Answers (meaning.call row args.now.list) (sight self.old)
+            (sight self.new) store.old store.new handler.old handler.new step) }
         ensures writable { IfOk result (λ step. is_write_fault step ≡ false → is_writable self.new) }
         ensures source { IfOk result (λ step.
             Counts (is_read_fault step) (source_faults self.old) (source_faults self.new)) }
@@ -58,7 +58,7 @@ pub trait Rows {
             Counts (is_write_fault step) (sink_faults self.old) (sink_faults self.new)) }
 
         ensures memory { OnErr result ((store.new ≡ store.old) × (handler.new ≡ handler.old) × is_writable self.new) }
-        ensures streams { OnErr result (SameStreams (may_be self.old) (may_be self.new)) }
+        ensures streams { OnErr result (SameSight (sight self.old) (sight self.new)) }
         ensures source_kept { OnErr result (source_faults self.new ≡ source_faults self.old) }
         ensures sinks_kept { OnErr result (sink_faults self.new ≡ sink_faults self.old) };
 
@@ -68,7 +68,7 @@ pub trait Rows {
         requires rest { IsAsked meaning rest }
         requires writable { is_writable self.old }
 
-        ensures answer { (handler : _) → Answers (meaning.resume rest answer) (may_be self.old) (may_be self.new)
+        ensures answer { (handler : _) → Answers (meaning.resume rest answer) (sight self.old) (sight self.new)
             store.old store.new handler handler result }
         ensures writable { is_write_fault result ≡ false → is_writable self.new }
         ensures source { Counts (is_read_fault result) (source_faults self.old) (source_faults self.new) }
@@ -77,6 +77,7 @@ pub trait Rows {
     /// The meaning keeps the laws that every library keeps.
     ghost keeps: { KeepsLaws meaning };
 
-    /// The streams may be such as they are.
-    ghost some: { (rows : Self) → (s : Streams) × may_be rows s };
+    /// Some input may come, and some output and error output may have been written.
+    ghost some: { (rows : Self) → ((input : Input) × (sight rows).comes input)
+        × ((output : List ℕ) × (err : List ℕ) × (sight rows).wrote output err) };
 }

@@ -13,7 +13,6 @@ use Rattle.object_store.specs.declared.pointer.Pointer.{Pointer}
 use Rattle.object_store.specs.Messages.{message_bytes}
 use Rattle.object_store.specs.Steps.{next_number, bytes_at}
 use Rattle.object_store.specs.Load.{load_integer, load_pointer}
-use Rattle.lib_defs.specs.Units.{rsize_max}
 use Rattle.lib_defs.specs.World.{Input}
 use Rattle.run_defs.specs.declared.seal.Seal.{Seal}
 use Rattle.run_defs.specs.State.{State, static_made, has_range, sealed}
@@ -22,14 +21,11 @@ use Rattle.run_defs.specs.Functions.{Environment, handler_name}
 use Rattle.run_defs.specs.Starts.{Budgets, StaticObject, empty_state, all_sealed, placed, messages, start_state}
 use Rattle.run_defs.specs.Starts.{statics_placed}
 use Rattle.run_defs.specs.Replay.{OpenCall}
+use Rattle.run_defs.specs.KeptSteps.{IsStatic, RunsKeep}
 use Rattle.run_defs.specs.Kept.{most_objects, At, Keeps}
+use Rattle.run_defs.proofs.Following.{at_died, stored_keeps, automatic_keeps, entered_keeps, at_left}
 use Rattle.run_defs.proofs.Following.{at_static_made, at_sealed, undefined_closes, keeps_within, keeps_reach}
 use Rattle.run_defs.proofs.Worlds.{Sized, length-mark}
-
--- a static object has a size that a store makes
-pub record IsStatic (object : StaticObject) : Type 0 where
-  pub some : 1 ≤ length object.bytes
-  pub within : length object.bytes ≤ rsize_max
 
 module _ (e : Environment) where
   found_keeps : {A : Type 0} (result : Result A Code) (pos : Pos) (s : State) (calls : List OpenCall) → At e s calls
@@ -106,3 +102,19 @@ module _ (e : Environment) where
       → length (start_state budgets input handler).world.store.objects + (start_state budgets input handler).ticks
       ≡ 1 + budgets.ticks
   start_size budgets input handler = placed_size messages (empty_state budgets input handler)
+
+pub runs_keep : (e : Environment) → RunsKeep e
+runs_keep e = record {
+  start = record { start = at_begin e; size = start_size e; statics = statics_keep e };
+  steps = record {
+    number = number_keeps e;
+    pointer = pointer_keeps e;
+    store = stored_keeps e;
+    make = automatic_keeps e;
+    seal = at_sealed e;
+    die = at_died e;
+    enter = entered_keeps e;
+    leave = at_left e;
+    stop = λ code pos s calls a. undefined_closes e s calls code pos a;
+  };
+}

@@ -14,3 +14,4 @@ pub mod Fits
 pub mod Replay
 pub mod Judge
 pub mod Kept
+pub mod KeptSteps

@@ -1,6 +1,7 @@
 //! What holds of journals.
 ghost use Rattle.run_defs.specs.Judge.{JudgeIsRight};
 ghost use Rattle.run_defs.specs.Kept.{CallsAreLawful};
+ghost use Rattle.run_defs.specs.KeptSteps.{RunsKeep};
 
 /// Who reads the lines in order and stops at the first that does not fit tells a lawful journal, and no other; and
 /// that line.
@@ -12,4 +13,10 @@ pub fn judge_law()
 /// and where it stops the run the journal with its end is lawful.
 pub fn call_law()
     ensures { CallsAreLawful }
+{}
+
+/// The start of a run and the steps of a unit keep a journal lawful: loads and stores, objects that are made, marked
+/// and die, calls that are entered and left.
+pub fn step_law()
+    ensures { (e : _) → RunsKeep e }
 {}

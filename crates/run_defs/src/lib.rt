@@ -18,7 +18,7 @@ pub mod values;
 pub use attempt::Attempt;
 pub use event::Event;
 pub use journal::{Journal, LineJournal, NoJournal};
-pub use laws::{call_law, judge_law};
+pub use laws::{call_law, judge_law, step_law};
 pub use library_call::{LibraryCall, Suspended, Waits};
 pub use line_text::event_line;
 pub use outcome::{End, Outcome};

@@ -14,6 +14,6 @@ returns c =
     let there = core_of c.args.types.now c.args.core in
     made_as
     (over (λ type x. At type (pos_in x) (first_element c.layout-layout.result x)) c.in_ok-of.ensures
-        (core_stays c.in_ok-of.ensures c.args.core c.requires.core) c.in_ok-made.ensures)
+    (core_stays c.in_ok-of.ensures c.args.core c.requires.core) c.in_ok-made.ensures)
     (λ i. At (pointer_to (type_of c.args.types.now c.args.element)) (pos_in there)
-        (first_element (c.layout-layout.ensures i) there))
+    (first_element (c.layout-layout.ensures i) there))
