@@ -1,5 +1,5 @@
 -- Loads, stores, operators and calls gain no tick.
-use Rattle.std.proofs.Common.{◌≡◌, ℕ, ◌+◌, ◌≤◌, Bool, true, false, ℤ, List, [], ◌∷◌, length, Option, Some, None}
+use Rattle.std.proofs.Common.{ℕ, ◌+◌, ◌≤◌, Bool, true, false, ℤ, List, [], ◌∷◌, length}
 use Rattle.std.proofs.Common.{Result, Ok, Err, sym, subst}
 use Rattle.acc_num.specs.declared.fault.NumFault.{NumFault}
 use Rattle.acc_num.specs.declared.kind.IntKind.{IntKind}
@@ -15,9 +15,8 @@ use Rattle.lib_defs.specs.declared.value.Value.{Value}
 use Rattle.lib_defs.specs.declared.value.Value.TheVariants.{Num, Ptr}
 use Rattle.lib_defs.specs.Units.{size}
 use Rattle.run_defs.specs.State.{State, patched}
-use Rattle.run_defs.specs.Evaluation.{Evaluation, Gives, bind, reached, automatic_made}
+use Rattle.run_defs.specs.Evaluation.{Gives, bind, reached, automatic_made}
 use Rattle.run_defs.specs.Loads.{pointer_size, pointer_align, read_attempt, found, number_loaded, pointer_loaded, known}
-use Rattle.run_defs.specs.Loads.{number_stored, pointer_stored}
 use Rattle.c_core.specs.declared.form.Form.{Form}
 use Rattle.c_core.specs.declared.form.Form.TheVariants as form
 use Rattle.c_core.specs.declared.form.Scalar.{Scalar}

@@ -1,44 +1,31 @@
 -- What an instruction leaves of a run: the rest behind the places where it leads.
-use Rattle.std.proofs.Common.{◌≡◌, ℕ, zero, suc, ◌+◌, ◌<◌, ◌≤◌, Bool, true, false, ℤ, List, [], ◌∷◌, length, replicate}
+use Rattle.std.proofs.Common.{ℕ, zero, suc, ◌+◌, ◌≤◌, Bool, true, false, ℤ, List, [], ◌∷◌, length}
 use Rattle.std.proofs.Common.{Option, Some, None, Contains, refl, sym, subst, arith, if◌then◌else◌}
-use Rattle.std.specs.Prelude.{◌-ℤ◌, nat_le}
-use Rattle.std.specs.List.{slice_get}
-use Rattle.acc_num.specs.Operations.{is_zero, converted_to}
-use Rattle.critical_table.specs.declared.pos.Pos.{Pos}
+use Rattle.std.specs.Prelude.{nat_le}
 use Rattle.object_store.specs.declared.mark.Mark.TheVariants.{Const}
 use Rattle.object_store.specs.declared.pointer.Pointer.{Pointer}
 use Rattle.lib_defs.specs.declared.value.Value.{Value}
 use Rattle.lib_defs.specs.declared.value.Value.TheVariants.{Num, Ptr, Nothing}
-use Rattle.lib_defs.specs.Columns.{is_null}
 use Rattle.lib_defs.specs.Reply.{null}
 use Rattle.run_defs.specs.State.{State, sealed, died}
-use Rattle.run_defs.specs.Evaluation.{Evaluation, Gives, Stops, bind, ticked, stored, automatic_made}
+use Rattle.run_defs.specs.Evaluation.{Evaluation}
 use Rattle.run_defs.specs.Functions.{function_number}
-use Rattle.run_defs.specs.Loads.{found}
 use Rattle.c_core.specs.declared.form.Form.{Form}
 use Rattle.c_core.specs.declared.form.Form.TheVariants as form
 use Rattle.c_core.specs.declared.form.Scalar.{Scalar}
 use Rattle.c_core.specs.declared.form.Scalar.TheVariants as scalar
-use Rattle.c_core.specs.Operations.{operator_outcome, negation, complement, compares}
-use Rattle.vm_code.specs.declared.instr.Instr.{Instr}
-use Rattle.vm_code.specs.declared.instr.Instr.TheVariants as i
 use Rattle.vm_code.specs.declared.parts.CodeCalled.{CodeCalled}
-use Rattle.vm_code.specs.Accesses.{loaded, copied}
-use Rattle.vm_code.specs.Pointers.{moved, difference, ordered, same_pointer, member_place, array_pointer}
-use Rattle.vm_code.specs.Operators.{computed, told, told_if_found, pointer_moved, assigned}
 use Rattle.vm_code.specs.Contents.{Contents}
-use Rattle.vm_code.specs.Slots.{Held, place_of, held_in, without}
-use Rattle.vm_code.specs.Frames.{Activation, Frame, Active, Place, Goes, Stuck, after}
-use Rattle.vm_code.specs.Calling.{Entry, called_through}
+use Rattle.vm_code.specs.Slots.{Held, without}
+use Rattle.vm_code.specs.Frames.{Active, Place, Stuck}
+use Rattle.vm_code.specs.Calling.{called_through}
 use Rattle.vm_code.specs.Machine.{Context, on_top, on_two, on_number, on_numbers, on_pointer, on_pointers, on_scalar}
-use Rattle.vm_code.specs.Machine.{on_form, on_operands, goes_to, next, push, gives, does, on_held, on_slot, makes, kills}
-use Rattle.vm_code.specs.Machine.{seals, reaches, text_stored, pools, default_place, pair_place, case_place, to_case, uses}
-use Rattle.vm_code.specs.Machine.{on_result, calls, act}
-use Rattle.vm_code.specs.Sound.{default_places, pair_places, case_places, next_places}
-use Rattle.vm_code.proofs.TicksFall.{Leaves, leaves_bind, leaves_ticked, leaves_stored, leaves_made, died_ticks, sealed_ticks}
-use Rattle.vm_code.proofs.AccessTicks.{leaves_found, leaves_computed, leaves_told, leaves_moved, leaves_counted}
-use Rattle.vm_code.proofs.AccessTicks.{leaves_loaded, leaves_assigned, leaves_copied, leaves_reaches, leaves_text}
-use Rattle.vm_code.proofs.Weights.{spent, spent_le, rest_at, weights, Within, within_after, within_leaves, within_called}
+use Rattle.vm_code.specs.Machine.{on_form, on_operands, goes_to, next, push, gives, does, on_held, makes, kills}
+use Rattle.vm_code.specs.Machine.{seals, text_stored, pools, uses}
+use Rattle.vm_code.specs.Machine.{on_result, calls}
+use Rattle.vm_code.proofs.TicksFall.{Leaves, died_ticks, sealed_ticks}
+use Rattle.vm_code.proofs.AccessTicks.{leaves_text}
+use Rattle.vm_code.proofs.Weights.{spent, spent_le, rest_at, weights, Within, within_after, within_called}
 
 -- ---- operands
 

@@ -1,22 +1,5 @@
 -- Each instruction keeps within what is left behind the places where it leads.
-use Rattle.std.proofs.Common.{
-  ◌≡◌,
-  ℕ,
-  zero,
-  suc,
-  ◌+◌,
-  ◌<◌,
-  ◌≤◌,
-  Bool,
-  true,
-  false,
-  ℤ,
-  List,
-  [],
-  ◌∷◌,
-  length,
-  replicate,
-}
+use Rattle.std.proofs.Common.{◌≡◌, ℕ, zero, suc, ◌+◌, ◌≤◌, Bool, true, false, ℤ, List, [], ◌∷◌, length, replicate}
 use Rattle.std.proofs.Common.{Option, Some, None, Contains, refl, subst, arith, if◌then◌else◌}
 use Rattle.std.specs.Prelude.{◌-ℤ◌}
 use Rattle.std.specs.List.{slice_get}
@@ -25,8 +8,7 @@ use Rattle.critical_table.specs.declared.pos.Pos.{Pos}
 use Rattle.lib_defs.specs.declared.value.Value.{Value}
 use Rattle.lib_defs.specs.declared.value.Value.TheVariants.{Num, Ptr, Nothing}
 use Rattle.lib_defs.specs.Columns.{is_null}
-use Rattle.run_defs.specs.State.{State}
-use Rattle.run_defs.specs.Evaluation.{Evaluation, Gives, bind, ticked, stored, automatic_made}
+use Rattle.run_defs.specs.Evaluation.{Gives, bind, ticked, stored, automatic_made}
 use Rattle.run_defs.specs.Loads.{found}
 use Rattle.c_core.specs.Operations.{operator_outcome, negation, complement, compares}
 use Rattle.vm_code.specs.declared.instr.Instr.{Instr}
@@ -35,27 +17,13 @@ use Rattle.vm_code.specs.Accesses.{loaded, copied}
 use Rattle.vm_code.specs.Pointers.{moved, difference, ordered, same_pointer, member_place, array_pointer}
 use Rattle.vm_code.specs.Operators.{computed, told, told_if_found, pointer_moved, assigned}
 use Rattle.vm_code.specs.Slots.{place_of, held_in}
-use Rattle.vm_code.specs.Frames.{Place, Goes, Stuck}
 use Rattle.vm_code.specs.Calling.{leaves}
-use Rattle.vm_code.specs.Machine.{Context, on_top, on_two, on_number, on_numbers, on_pointer, on_pointers, on_scalar}
-use Rattle.vm_code.specs.Machine.{
-  on_form,
-  goes_to,
-  next,
-  push,
-  gives,
-  does,
-  on_slot,
-  makes,
-  kills,
-  seals,
-  reaches,
-  pools,
-}
-use Rattle.vm_code.specs.Machine.{default_place, pair_place, case_place, to_case, uses, calls, act}
+use Rattle.vm_code.specs.Machine.{Context, on_pointer}
+use Rattle.vm_code.specs.Machine.{goes_to, next, push, gives, does, seals, reaches, pools}
+use Rattle.vm_code.specs.Machine.{default_place, pair_place, case_place, to_case, act}
 use Rattle.vm_code.specs.Sound.{default_places, pair_places, case_places, next_places}
 use Rattle.vm_code.proofs.Fronts.{some_alone}
-use Rattle.vm_code.proofs.TicksFall.{Leaves, leaves_bind, leaves_ticked, leaves_stored, leaves_made}
+use Rattle.vm_code.proofs.TicksFall.{leaves_bind, leaves_ticked, leaves_stored, leaves_made}
 use Rattle.vm_code.proofs.AccessTicks.{leaves_computed, leaves_told, leaves_moved, leaves_counted, leaves_loaded}
 use Rattle.vm_code.proofs.AccessTicks.{leaves_assigned, leaves_copied, leaves_reaches}
 use Rattle.vm_code.proofs.Weights.{spent, rest_at, weights, Within, within_leaves}

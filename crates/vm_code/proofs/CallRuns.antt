@@ -1,5 +1,5 @@
 -- Runs of codes with calls of functions of the unit, and with static objects.
-use Rattle.std.proofs.Common.{◌≡◌, ℕ, List, [], ◌∷◌, Some, None, refl}
+use Rattle.std.proofs.Common.{◌≡◌, ℕ, List, [], ◌∷◌, refl}
 use Rattle.std.specs.Prelude.{pos, codes}
 use Rattle.acc_num.specs.Numbers.{value_of}
 use Rattle.acc_num.specs.declared.kind.IntKind.TheVariants as k
@@ -27,7 +27,7 @@ use Rattle.vm_code.specs.declared.parts.CodeFunction.{CodeFunction}
 use Rattle.vm_code.specs.declared.parts.Parameter.{Parameter}
 use Rattle.vm_code.specs.Contents.{Contents}
 use Rattle.vm_code.specs.Frames.{Stuck}
-use Rattle.vm_code.proofs.RunWords.{here, int, load_int, store_int, with, function, unit, alone, gives_int, types_of}
+use Rattle.vm_code.proofs.RunWords.{here, int, load_int, with, function, unit, alone, gives_int, types_of}
 use Rattle.vm_code.proofs.RunWords.{seen, seen_of, place_of_run, budgets, no_input, ends, wrote, made, died}
 
 -- a function f that starts at an instruction, and is called through the called type 2

@@ -1,5 +1,5 @@
 -- The instructions of a run, counted by what it leaves.
-use Rattle.std.proofs.Common.{◌≡◌, ℕ, zero, suc, ◌+◌, ◌-◌, ◌*◌, ◌<◌, ◌≤◌, ◌⊎◌, inl, inr, Bool, true, false, ◌&&◌, List, []}
+use Rattle.std.proofs.Common.{◌≡◌, ℕ, zero, suc, ◌+◌, ◌-◌, ◌*◌, ◌<◌, ◌≤◌, inl, inr, Bool, true, false, ◌&&◌, List, []}
 use Rattle.std.proofs.Common.{◌∷◌, length, map, Option, Some, None, Contains, refl, sym, ◌∙◌, ap, subst, arith}
 use Rattle.std.proofs.Common.{if◌then◌else◌}
 use Rattle.std.proofs.lemmas.Bool.{ltb-true, cases_lt}
@@ -11,7 +11,7 @@ use Rattle.run_defs.specs.declared.outcome.Outcome.{Outcome}
 use Rattle.run_defs.specs.declared.outcome.Outcome.TheVariants.{OutOfTicks}
 use Rattle.run_defs.specs.declared.seal.Seal.{Seal}
 use Rattle.run_defs.specs.State.{State, sealed, static_made}
-use Rattle.run_defs.specs.Evaluation.{Evaluation, Gives, Stops, bind, within, ticked_at, ticked}
+use Rattle.run_defs.specs.Evaluation.{Evaluation, Gives, Stops, within, ticked_at}
 use Rattle.run_defs.specs.Functions.{Environment}
 use Rattle.run_defs.specs.Starts.{Budgets, StaticObject, empty_state, all_sealed, placed, messages, start_state}
 use Rattle.run_defs.specs.Starts.{statics_placed}
@@ -19,14 +19,14 @@ use Rattle.vm_code.specs.declared.parts.CodeFunction.{CodeFunction}
 use Rattle.vm_code.specs.Contents.{Contents, function_at}
 use Rattle.vm_code.specs.CodeFunctions.{environment, abort_handler, main_function, end_from, end_of}
 use Rattle.vm_code.specs.Frames.{Frame, Place, Goes, Ends, Stuck, after}
-use Rattle.vm_code.specs.Calling.{Entry, entered_at, entered}
-use Rattle.vm_code.specs.Machine.{step, run, begun_count, static_of, outer_entry, main_called, started, RunsTo}
+use Rattle.vm_code.specs.Calling.{entered_at, entered}
+use Rattle.vm_code.specs.Machine.{step, run, begun_count, static_of, outer_entry, main_called, RunsTo}
 use Rattle.vm_code.specs.Sound.{is_entry, is_place}
 use Rattle.vm_code.specs.Ways.{stretch_of}
-use Rattle.vm_code.specs.Valid.{Fails, CannotStart, IsValid}
+use Rattle.vm_code.specs.Valid.{CannotStart, IsValid}
 use Rattle.vm_code.specs.Bound.{IsBounded}
 use Rattle.vm_code.proofs.TicksFall.{sealed_ticks, Leaves, leaves_bind, leaves_within}
-use Rattle.vm_code.proofs.Weights.{spent, spent_le, spent_less, weights, Within, within_entered}
+use Rattle.vm_code.proofs.Weights.{spent, spent_less, weights, Within, within_entered}
 use Rattle.vm_code.proofs.Falling.{and_left, and_right, bool_true, function_contained, Falls, step_falls}
 
 -- ---- the count
@@ -36,15 +36,17 @@ state_of other (Goes frames s) = other
 state_of other (Ends outcome s) = s
 state_of other Stuck = other
 
-ends_state : (reached : Outcome) (there : State) (outcome : Outcome) (s : State) → Ends reached there ≡ Ends outcome s
+pub ends_state : (reached : Outcome) (there : State) (outcome : Outcome) (s : State)
+    → Ends reached there ≡ Ends outcome s
     → there ≡ s
 unfolding state_of
 ends_state reached there outcome s same = ap (state_of there) same
 
-stuck_ends : (outcome : Outcome) (s : State) → Stuck ≡ Ends outcome s → ⊥
+pub stuck_ends : (outcome : Outcome) (s : State) → Stuck ≡ Ends outcome s → ⊥
 stuck_ends outcome s same = cc
 
-goes_ends : (frames : List Frame) (there : State) (outcome : Outcome) (s : State) → Goes frames there ≡ Ends outcome s
+pub goes_ends : (frames : List Frame) (there : State) (outcome : Outcome) (s : State)
+    → Goes frames there ≡ Ends outcome s
     → ⊥
 goes_ends frames there outcome s same = cc
 
@@ -64,29 +66,29 @@ module _ (code : Contents) (valid : IsValid code) (e : Environment) where
   unfolding Counts
   counts_on n m (Ends reached there) outcome s all falls is =
       let less : spent (length code.instrs) there.ticks ≡ spent (length code.instrs) s.ticks =
-          ap (λ (x : State). spent (length code.instrs) x.ticks) (ends_state reached there outcome s is) in
+      ap (λ (x : State). spent (length code.instrs) x.ticks) (ends_state reached there outcome s is) in
       omega (arith, less, falls)
   counts_on n m Stuck outcome s all falls is = absurd (stuck_ends outcome s is)
   counts_on n m (Goes frames there) outcome s all falls is =
       let few : begun_count e code (Goes frames there) n + spent (length code.instrs) s.ticks
-              ≤ spent (length code.instrs) there.ticks + weights code frames + 1 =
-          all (spent (length code.instrs) there.ticks + weights code frames) (Goes frames there) outcome s
-          (omega arith) is in
+      ≤ spent (length code.instrs) there.ticks + weights code frames + 1 =
+      all (spent (length code.instrs) there.ticks + weights code frames) (Goes frames there) outcome s
+      (omega arith) is in
       omega (arith, few, falls)
 
   counted : (n : ℕ) → Counts n
   unfolding Counts
   counted n m (Ends reached there) outcome s within is =
       let less : spent (length code.instrs) there.ticks ≡ spent (length code.instrs) s.ticks =
-          ap (λ (x : State). spent (length code.instrs) x.ticks) (ends_state reached there outcome s is) in
+      ap (λ (x : State). spent (length code.instrs) x.ticks) (ends_state reached there outcome s is) in
       omega (arith, less, within)
   counted n m Stuck outcome s within is = absurd (stuck_ends outcome s is)
   counted zero m (Goes frames there) outcome s within is = absurd (goes_ends frames there outcome s is)
   counted (suc n) m (Goes frames there) outcome s within is =
       let few : begun_count e code (step e code frames there) n + spent (length code.instrs) s.ticks ≤ m =
-          counts_on n m (step e code frames there) outcome s (counted n)
-          (falls_less code (spent (length code.instrs) there.ticks + weights code frames) m
-              (step e code frames there) (step_falls code valid e frames there) within) is in
+      counts_on n m (step e code frames there) outcome s (counted n)
+      (falls_less code (spent (length code.instrs) there.ticks + weights code frames) m
+      (step e code frames there) (step_falls code valid e frames there) within) is in
       omega (arith, few)
 
 -- ---- the start
@@ -104,32 +106,32 @@ leaves_statics [] t s le = le
 leaves_statics (object ∷ objects) t s le = leaves_bind t (within (length object.bytes) s)
     (λ u s1. statics_placed objects (placed object s1)) (leaves_within (length object.bytes) t s le)
     (λ u s1 le1. let P : ℕ → Type 0 = λ n. n ≤ t in
-        leaves_statics objects t (placed object s1) (subst P (sym (placed_ticks object s1)) le1))
+    leaves_statics objects t (placed object s1) (subst P (sym (placed_ticks object s1)) le1))
 
 end_from_le : (start : ℕ) (functions : List CodeFunction) (end : ℕ) → end_from start functions end ≤ end
 end_from_le start [] end = omega arith
 end_from_le start (f ∷ fs) end = at_start (nat_lt start f.start && nat_lt f.start end) refl
     (end_from_le start fs f.start) (end_from_le start fs end)
   where
-  at_start : (b : Bool) → (nat_lt start f.start && nat_lt f.start end) ≡ b → end_from start fs f.start ≤ f.start
-      → end_from start fs end ≤ end
-      → (if b then end_from start fs f.start else end_from start fs end) ≤ end
-  at_start true is near far =
-      let below : f.start < end = ltb-true f.start end (and_right (nat_lt start f.start) (nat_lt f.start end) is) in
-      omega (arith, below, near)
-  at_start false is near far = far
+    at_start : (b : Bool) → (nat_lt start f.start && nat_lt f.start end) ≡ b → end_from start fs f.start ≤ f.start
+        → end_from start fs end ≤ end
+        → (if b then end_from start fs f.start else end_from start fs end) ≤ end
+    at_start true is near far =
+        let below : f.start < end = ltb-true f.start end (and_right (nat_lt start f.start) (nat_lt f.start end) is) in
+        omega (arith, below, near)
+    at_start false is near far = far
 
 -- code with a function has an instruction
 some_instr : (code : Contents) → IsValid code → (f : CodeFunction) → Contains code.functions f → 0 < length code.instrs
 some_instr code valid f is =
     let place : is_place code (stretch_of code f) f.start ≡ true =
-        bool_true (is_place code (stretch_of code f) f.start)
-        (λ no_place. valid.holds f.start (CannotStart f is refl no_place)) in
+    bool_true (is_place code (stretch_of code f) f.start)
+    (λ no_place. valid.holds f.start (CannotStart f is refl no_place)) in
     let inner : (nat_le f.start f.start && nat_lt f.start (end_of code f)) ≡ true =
-        and_left (nat_le f.start f.start && nat_lt f.start (end_of code f))
-        (not (is_entry (slice_get code.instrs f.start))) place in
+    and_left (nat_le f.start f.start && nat_lt f.start (end_of code f))
+    (not (is_entry (slice_get code.instrs f.start))) place in
     let below : f.start < end_of code f =
-        ltb-true f.start (end_of code f) (and_right (nat_le f.start f.start) (nat_lt f.start (end_of code f)) inner) in
+    ltb-true f.start (end_of code f) (and_right (nat_le f.start f.start) (nat_lt f.start (end_of code f)) inner) in
     let within : end_of code f ≤ length code.instrs = end_from_le f.start code.functions (length code.instrs) in
     omega (arith, below, within)
 
@@ -157,23 +159,23 @@ few_of : (u before k left n : ℕ) → 0 < u → k < before → n + spent u left
     → (left ≤ before) × (n ≤ (2 * (before - left) + 1) * u)
 few_of u before k left n some less counted = (lower, few)
   where
-  paid : spent u k + (u + u) ≤ spent u before
-  paid = spent_less u k before less
+    paid : spent u k + (u + u) ≤ spent u before
+    paid = spent_less u k before less
 
-  lower : left ≤ before
-  lower = elim (cases_lt before left) [
-    inl above ↦ absurd (let more : spent u before + (u + u) ≤ spent u left = spent_less u before left above in
-        let none : ⊥ = omega (arith, more, paid, counted, some) in none)
-    | inr below ↦ below
-  ]
+    lower : left ≤ before
+    lower = elim (cases_lt before left) [
+      | inl above ↦ absurd (let more : spent u before + (u + u) ≤ spent u left = spent_less u before left above in
+          let none : ⊥ = omega (arith, more, paid, counted, some) in none)
+      | inr below ↦ below
+    ]
 
-  few : n ≤ (2 * (before - left) + 1) * u
-  few =
-    let parts : (before - left) + left ≡ before = omega (arith, lower) in
-    let whole : spent u before ≡ (2 * (before - left)) * u + spent u left =
+    few : n ≤ (2 * (before - left) + 1) * u
+    few =
+        let parts : (before - left) + left ≡ before = omega (arith, lower) in
+        let whole : spent u before ≡ (2 * (before - left)) * u + spent u left =
         ap (spent u) (sym parts) ∙ spent_more u left (before - left) in
-    let last : (2 * (before - left) + 1) * u ≡ (2 * (before - left)) * u + u = once_more u (before - left) in
-    omega (arith, whole, last, paid, counted, some)
+        let last : (2 * (before - left) + 1) * u ≡ (2 * (before - left)) * u + u = once_more u (before - left) in
+        omega (arith, whole, last, paid, counted, some)
 
 Few : Contents → ℕ → State → ℕ → Type 0
 Few code ticks s n = (s.ticks ≤ ticks) × (n ≤ (2 * (ticks - s.ticks) + 1) * length code.instrs)
@@ -195,15 +197,15 @@ module _ (code : Contents) (valid : IsValid code) (e : Environment) (ticks n : �
   few_entered None f there is less ends counts = absurd (stuck_ends outcome s ends)
   few_entered (Some function) f there is less ends counts =
       let some : 0 < length code.instrs =
-          some_instr code valid function (function_contained code.functions f function is) in
+      some_instr code valid function (function_contained code.functions f function is) in
       let P : Option CodeFunction → Type 0 = λ o. Within code (spent (length code.instrs) there.ticks
-          + length code.instrs) (entered_at o (outer_entry f) [] there) in
+      + length code.instrs) (entered_at o (outer_entry f) [] there) in
       let few : begun_count e code (entered_at (Some function) (outer_entry f) [] there) n
-              + spent (length code.instrs) s.ticks ≤ spent (length code.instrs) there.ticks + length code.instrs + 1 =
-          counted code valid e n (spent (length code.instrs) there.ticks + length code.instrs)
-          (entered_at (Some function) (outer_entry f) [] there) outcome s
-          (subst P is (within_entered code (spent (length code.instrs) there.ticks + length code.instrs) (outer_entry f)
-              [] there (omega arith))) ends in
+      + spent (length code.instrs) s.ticks ≤ spent (length code.instrs) there.ticks + length code.instrs + 1 =
+      counted code valid e n (spent (length code.instrs) there.ticks + length code.instrs)
+      (entered_at (Some function) (outer_entry f) [] there) outcome s
+      (subst P is (within_entered code (spent (length code.instrs) there.ticks + length code.instrs) (outer_entry f)
+      [] there (omega arith))) ends in
       few_of (length code.instrs) ticks there.ticks s.ticks n some less (omega (arith, few, counts))
 
   few_ticked : (k f : ℕ) (there : State) → k ≤ ticks → there.ticks ≤ ticks
@@ -236,12 +238,12 @@ pub bounded : (library : Library) (code : Contents) (budgets : Budgets) (input :
 unfolding Few
 bounded library code budgets input outcome s instructions valid runs =
     let start : (start_state budgets input (abort_handler code)).ticks ≡ budgets.ticks =
-        placed_ticks messages (empty_state budgets input (abort_handler code)) in
+    placed_ticks messages (empty_state budgets input (abort_handler code)) in
     let few : Few code budgets.ticks runs.before instructions =
-        few_started code valid (environment library code) budgets.ticks instructions outcome runs.before
-        (statics_placed (map static_of code.objects) (start_state budgets input (abort_handler code)))
-        (leaves_statics (map static_of code.objects) budgets.ticks
-            (start_state budgets input (abort_handler code)) (omega (arith, start))) runs.ends runs.all_begin in
+    few_started code valid (environment library code) budgets.ticks instructions outcome runs.before
+    (statics_placed (map static_of code.objects) (start_state budgets input (abort_handler code)))
+    (leaves_statics (map static_of code.objects) budgets.ticks
+    (start_state budgets input (abort_handler code)) (omega (arith, start))) runs.ends runs.all_begin in
     let same : s.ticks ≡ runs.before.ticks = ap (λ (x : State). x.ticks) runs.last in
     record {
       ticks = omega (arith, same, few.0);

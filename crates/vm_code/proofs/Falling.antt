@@ -1,5 +1,5 @@
 -- Each step of valid code leaves less of the run.
-use Rattle.std.proofs.Common.{◌≡◌, ℕ, zero, suc, ◌+◌, ◌-◌, ◌<◌, ◌≤◌, Bool, true, false, ◌&&◌, ◌||◌, not, List, [], ◌∷◌}
+use Rattle.std.proofs.Common.{◌≡◌, ℕ, zero, suc, ◌+◌, ◌-◌, ◌<◌, ◌≤◌, Bool, true, false, ◌&&◌, ◌||◌, List, [], ◌∷◌}
 use Rattle.std.proofs.Common.{length, Option, Some, None, Contains, refl, sym, ◌∙◌, ap, subst, arith}
 use Rattle.std.proofs.lemmas.Bool.{ltb-true, leb-true}
 use Rattle.std.proofs.lemmas.Option.{slice_get_within}
@@ -16,13 +16,13 @@ use Rattle.vm_code.specs.declared.parts.CodeFunction.{CodeFunction}
 use Rattle.vm_code.specs.Contents.{Contents, function_at}
 use Rattle.vm_code.specs.CodeFunctions.{end_of}
 use Rattle.vm_code.specs.Frames.{Activation, Frame, Active, Waiting, Place, Goes, Ends, Stuck, after}
-use Rattle.vm_code.specs.Machine.{Context, next, does, act, fetched_if, fetched, acts, step_in, step}
+use Rattle.vm_code.specs.Machine.{Context, next, fetched_if, acts, step_in, step}
 use Rattle.vm_code.specs.Sound.{Stretch, is_place, is_tick, leads, next_places, is_plain, is_sound}
 use Rattle.vm_code.specs.Ways.{stretch_of}
-use Rattle.vm_code.specs.Valid.{StandsAt, IsStretch, OfFunction, Fails, IsUnsound, IsValid}
+use Rattle.vm_code.specs.Valid.{StandsAt, OfFunction, IsUnsound, IsValid}
 use Rattle.vm_code.proofs.Fronts.{some_alone}
 use Rattle.vm_code.proofs.Acting.{first_of}
-use Rattle.vm_code.proofs.Weights.{spent, spent_less, rest_if, rest_at, rest_le, weights, Within}
+use Rattle.vm_code.proofs.Weights.{spent, rest_if, rest_at, rest_le, weights, Within}
 use Rattle.vm_code.proofs.ActingOn.{within_act, later, none_is_some}
 
 -- ---- what soundness says of the places where an instruction leads
@@ -109,24 +109,30 @@ module _ (code : Contents) (valid : IsValid code) (e : Environment) where
       (acts (Some (instr, here)) e code f frame rest s)
   falls_other f frame rest s instr here is from to stands other =
       let sound : is_sound code (stretch_of code f) frame.at instr ≡ true =
-          sound_at f frame.at instr is from to (here, stands) in
+      sound_at f frame.at instr is from to (here, stands) in
       let led : list_all (leads code (stretch_of code f) frame.at) (next_places code frame.at instr) ≡ true =
-          and_right (is_plain code (stretch_of code f) frame.at instr)
-          (list_all (leads code (stretch_of code f) frame.at) (next_places code frame.at instr)) sound in
+      and_right (is_plain code (stretch_of code f) frame.at instr)
+      (list_all (leads code (stretch_of code f) frame.at) (next_places code frame.at instr)) sound in
       let below : frame.at < length code.instrs = slice_get_within code.instrs frame.at (instr, here) stands in
       let no_tick : is_tick (slice_get code.instrs frame.at) ≡ false = ap is_tick stands ∙ other in
       let left : rest_at code frame.at ≡ length code.instrs - frame.at =
-          ap (λ (b : Bool). rest_if b (length code.instrs) frame.at) no_tick in
+      ap (λ (b : Bool). rest_if b (length code.instrs) frame.at) no_tick in
       falls_within code
       (spent (length code.instrs) s.ticks + (length code.instrs - (frame.at + 1)) + weights code rest)
       (spent (length code.instrs) s.ticks + (rest_at code frame.at + weights code rest))
       (acts (Some (instr, here)) e code f frame rest s)
       (within_act (record {
-        environment = e; code = code; function = f; frame = frame; rest = rest; pos = here; state = s
+        environment = e;
+        code = code;
+        function = f;
+        frame = frame;
+        rest = rest;
+        pos = here;
+        state = s;
       }) (spent (length code.instrs) s.ticks + (length code.instrs - (frame.at + 1)) + weights code rest)
       (length code.instrs - (frame.at + 1)) (omega arith) instr
       (λ there found. leads_rest code (stretch_of code f) frame.at there
-          (all_of (leads code (stretch_of code f) frame.at) (next_places code frame.at instr) there led found)))
+      (all_of (leads code (stretch_of code f) frame.at) (next_places code frame.at instr) there led found)))
       (omega (arith, left, below))
 
   falls_act : (f : CodeFunction) (frame : Activation) (rest : List Frame) (s : State) (instr : Instr) (here : Pos)
@@ -137,14 +143,20 @@ module _ (code : Contents) (valid : IsValid code) (e : Environment) where
   falls_act f frame rest s i.Tick here is from to stands =
       let below : frame.at < length code.instrs = slice_get_within code.instrs frame.at (i.Tick, here) stands in
       let left : rest_at code frame.at ≡ 0 =
-          ap (λ (b : Bool). rest_if b (length code.instrs) frame.at) (ap is_tick stands) in
+      ap (λ (b : Bool). rest_if b (length code.instrs) frame.at) (ap is_tick stands) in
       let P : ℕ → Type 0 = λ n. Falls code (spent (length code.instrs) s.ticks + (n + weights code rest))
-          (acts (Some (i.Tick, here)) e code f frame rest s) in
+      (acts (Some (i.Tick, here)) e code f frame rest s) in
       let Q : ℕ → Type 0 = λ n. Falls code (spent (length code.instrs) s.ticks + n)
-          (acts (Some (i.Tick, here)) e code f frame rest s) in
+      (acts (Some (i.Tick, here)) e code f frame rest s) in
       let zero_first : 0 + weights code rest ≡ weights code rest = omega arith in
       subst P (sym left) (subst Q (sym zero_first) (falls_tick s.ticks (record {
-        environment = e; code = code; function = f; frame = frame; rest = rest; pos = here; state = s
+        environment = e;
+        code = code;
+        function = f;
+        frame = frame;
+        rest = rest;
+        pos = here;
+        state = s;
       }) frame.operands refl (omega (arith, below))))
   falls_act f frame rest s instr here is from to stands =
       falls_other f frame rest s instr here is from to stands refl
@@ -156,17 +168,19 @@ module _ (code : Contents) (valid : IsValid code) (e : Environment) where
   falls_fetched false f frame rest s inside is = tt
   falls_fetched true f frame rest s inside is = at_instr (slice_get code.instrs frame.at) refl
     where
-    at_instr : (o : Option (Instr × Pos)) → slice_get code.instrs frame.at ≡ o
-        → Falls code (spent (length code.instrs) s.ticks + (rest_at code frame.at + weights code rest))
-        (acts o e code f frame rest s)
-    at_instr None stands = tt
-    at_instr (Some (instr, here)) stands =
-        falls_act f frame rest s instr here is (inside refl).0 (inside refl).1 stands
+      at_instr : (o : Option (Instr × Pos)) → slice_get code.instrs frame.at ≡ o
+          → Falls code (spent (length code.instrs) s.ticks + (rest_at code frame.at + weights code rest))
+          (acts o e code f frame rest s)
+      at_instr None stands = tt
+      at_instr (Some (instr, here)) stands =
+          falls_act f frame rest s instr here is (inside refl).0 (inside refl).1 stands
 
   inside_of : (f : CodeFunction) (at : ℕ) → (nat_le f.start at && nat_lt at (end_of code f)) ≡ true
       → f.start ≤ at × at < end_of code f
-  inside_of f at both = (leb-true f.start at (and_left (nat_le f.start at) (nat_lt at (end_of code f)) both),
-      ltb-true at (end_of code f) (and_right (nat_le f.start at) (nat_lt at (end_of code f)) both))
+  inside_of f at both = (
+    leb-true f.start at (and_left (nat_le f.start at) (nat_lt at (end_of code f)) both),
+    ltb-true at (end_of code f) (and_right (nat_le f.start at) (nat_lt at (end_of code f)) both),
+  )
 
   falls_in : (frame : Activation) (rest : List Frame) (s : State) (o : Option CodeFunction)
       → function_at code.functions frame.function ≡ o

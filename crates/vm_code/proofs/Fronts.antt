@@ -1,9 +1,8 @@
 -- Code is valid where each instruction that a way comes to has a front: the kinds of its operands, and slots that are
 -- made at least.
-use Rattle.std.proofs.Common.{◌≡◌, ◌≢◌, ℕ, zero, suc, ◌+◌, ◌<◌, ◌≤◌, ◌==◌, Bool, true, false, List, [], Contains, Option}
-use Rattle.std.proofs.Common.{Some, None, unwrap_or, refl, sym, ◌∙◌, ap, subst, arith, if◌then◌else◌}
+use Rattle.std.proofs.Common.{◌≡◌, ℕ, zero, suc, ◌+◌, ◌<◌, ◌≤◌, ◌==◌, Bool, true, false, [], Contains, Option}
+use Rattle.std.proofs.Common.{Some, None, unwrap_or, sym, ◌∙◌, ap, subst, arith, if◌then◌else◌}
 use Rattle.std.specs.List.{slice_get}
-use Rattle.critical_table.specs.declared.pos.Pos.{Pos}
 use Rattle.vm_code.specs.declared.instr.Instr.{Instr}
 use Rattle.vm_code.specs.declared.instr.Instr.TheVariants as i
 use Rattle.vm_code.specs.declared.parts.CodeFunction.{CodeFunction}
@@ -13,7 +12,8 @@ use Rattle.vm_code.specs.OperandKinds.{Kinds, kinds_after}
 use Rattle.vm_code.specs.Sound.{Stretch, is_place, is_sound, next_places}
 use Rattle.vm_code.specs.Ways.{Slots, slot_made, slot_killed, slots_after, parameter_slots, stretch_of, Step, Way}
 use Rattle.vm_code.specs.Valid.{StandsAt, Comes, LacksSlot, NoObject, NothingToSeal, SealsBeyond, IsStretch, Fails}
-use Rattle.vm_code.specs.Valid.{IsUnsound, CannotStart, LacksOperand, LacksObject, KindsDiffer, SizesDiffer, KillsNothing}
+use Rattle.vm_code.specs.Valid.{IsUnsound, CannotStart, LacksOperand, LacksObject, KindsDiffer, SizesDiffer}
+use Rattle.vm_code.specs.Valid.{KillsNothing}
 use Rattle.vm_code.specs.Valid.{OwnFit, IsValid}
 
 -- an option with a value has one alone
@@ -48,7 +48,8 @@ pub record Fits (code : Contents) (f : CodeFunction) (fronts : Fronts) (at : ℕ
   pub operands : kinds_after code f.form instr front.kinds ≡ Some left
   pub slots : SlotsMade instr front.made
   pub onward : (to : ℕ) → Contains (next_places code at instr) to
-      → (there : Front) × (fronts to ≡ Some there) × (there.kinds ≡ left) × Covers there.made (slots_after instr front.made)
+      → (there : Front) × (fronts to ≡ Some there) × (there.kinds ≡ left) × Covers there.made
+          (slots_after instr front.made)
 
 -- the fronts of a function's code
 pub record AreFronts (code : Contents) (f : CodeFunction) (fronts : Fronts) : Type 0 where

@@ -13,3 +13,4 @@ mod ActingOn
 mod Falling
 mod Counted
 mod ValidExamples
+mod EndLemmas

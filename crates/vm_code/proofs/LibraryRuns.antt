@@ -1,13 +1,11 @@
 -- Runs of codes with library calls: rows that are done, handlers, and a row that wants a function of the unit.
-use Rattle.std.proofs.Common.{◌≡◌, ℕ, List, [], ◌∷◌, Some, None, refl}
+use Rattle.std.proofs.Common.{◌≡◌, ℕ, List, [], ◌∷◌, refl}
 use Rattle.std.specs.Prelude.{◌+◌, ◌++◌, pos, codes}
-use Rattle.acc_num.specs.Numbers.{value_of}
 use Rattle.acc_num.specs.declared.kind.IntKind.TheVariants as k
 use Rattle.critical_table.specs.declared.case.Case.TheVariants.{L3, L6, L9}
 use Rattle.object_store.specs.declared.class.Class.TheVariants.{Static, Allocated}
 use Rattle.object_store.specs.declared.mark.Mark.TheVariants.{Literal}
-use Rattle.object_store.specs.declared.pointer.Pointer.{Pointer}
-use Rattle.object_store.specs.Load.{integer_bytes, pointer_bytes, load_integer}
+use Rattle.object_store.specs.Load.{integer_bytes, pointer_bytes}
 use Rattle.object_store.specs.Messages.{message_bytes}
 use Rattle.object_store.specs.Reach.{reach_table}
 use Rattle.object_store.specs.Storage.{live_bytes}
@@ -18,16 +16,14 @@ use Rattle.lib_defs.specs.Reply.{null}
 use Rattle.lib_defs.specs.Spans.{span}
 use Rattle.lib_defs.specs.Library.{Library}
 use Rattle.lib_defs.specs.Sample.{sample, ask_reply}
-use Rattle.lib_defs.specs.World.{Input, AtEnd, Broken}
+use Rattle.lib_defs.specs.World.{AtEnd, Broken}
 use Rattle.run_defs.specs.declared.event.Event.{Event}
 use Rattle.run_defs.specs.declared.event.Event.TheVariants as e
 use Rattle.run_defs.specs.declared.outcome.Outcome.TheVariants as o
 use Rattle.c_core.specs.declared.form.Form.TheVariants as form
 use Rattle.vm_code.specs.declared.instr.Instr.{Instr}
 use Rattle.vm_code.specs.declared.instr.Instr.TheVariants as i
-use Rattle.vm_code.specs.declared.parts.CodeCalled.{CodeCalled}
 use Rattle.vm_code.specs.declared.parts.CodeFunction.{CodeFunction}
-use Rattle.vm_code.specs.declared.parts.Parameter.{Parameter}
 use Rattle.vm_code.specs.Contents.{Contents}
 use Rattle.vm_code.proofs.RunWords.{here, int, function, object, unit, gives_int, called, handlers, comparers, types_of}
 use Rattle.vm_code.proofs.RunWords.{seen, seen_of, budgets, no_input, writes, ends, wrote, made, died}

@@ -1,8 +1,8 @@
 -- Runs of codes over objects and pointers.
-use Rattle.std.proofs.Common.{◌≡◌, ℕ, List, [], ◌∷◌, Some, None, true, false, refl}
+use Rattle.std.proofs.Common.{◌≡◌, ℕ, [], ◌∷◌, true, false, refl}
 use Rattle.std.specs.Prelude.{◌++◌, pos, codes}
 use Rattle.acc_num.specs.Numbers.{value_of}
-use Rattle.acc_num.specs.Operations.{converted_to, power_of_two}
+use Rattle.acc_num.specs.Operations.{converted_to}
 use Rattle.acc_num.specs.declared.kind.IntKind.TheVariants as k
 use Rattle.critical_table.specs.declared.case.Case.TheVariants.{L4, L7, L8}
 use Rattle.critical_table.specs.declared.code.Code.TheVariants.{U05, U06, U07, U08, U10}
@@ -18,7 +18,6 @@ use Rattle.run_defs.specs.declared.outcome.Outcome.TheVariants as o
 use Rattle.c_core.specs.declared.form.Scalar.TheVariants as scalar
 use Rattle.c_core.specs.declared.operator.Operator.TheVariants as op
 use Rattle.c_core.specs.declared.operator.Relation.TheVariants.{Less, Greater}
-use Rattle.c_core.specs.declared.operator.Stride.{Stride}
 use Rattle.c_core.specs.Operations.{operator_outcome}
 use Rattle.vm_code.specs.declared.instr.Instr.{Instr}
 use Rattle.vm_code.specs.declared.instr.Instr.TheVariants as i

@@ -1,5 +1,5 @@
 -- Runs of codes over operands alone, and where a run is stuck.
-use Rattle.std.proofs.Common.{◌≡◌, ℕ, List, [], ◌∷◌, Some, None, refl}
+use Rattle.std.proofs.Common.{◌≡◌, ℕ, [], ◌∷◌, refl}
 use Rattle.std.specs.Prelude.{negsuc, pos}
 use Rattle.acc_num.specs.Numbers.{value_of}
 use Rattle.acc_num.specs.Operations.{converted_to, power_of_two}

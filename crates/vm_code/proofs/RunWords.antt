@@ -22,10 +22,9 @@ use Rattle.vm_code.specs.declared.instr.Instr.{Instr}
 use Rattle.vm_code.specs.declared.instr.Instr.TheVariants as i
 use Rattle.vm_code.specs.declared.parts.CodeFunction.{CodeFunction}
 use Rattle.vm_code.specs.declared.parts.CodeCalled.{CodeCalled}
-use Rattle.vm_code.specs.declared.parts.Parameter.{Parameter}
 use Rattle.vm_code.specs.Contents.{Contents}
 use Rattle.vm_code.specs.CodeFunctions.{environment, function_pointer}
-use Rattle.vm_code.specs.Frames.{Place, Goes, Ends, Stuck}
+use Rattle.vm_code.specs.Frames.{Place, Ends}
 use Rattle.vm_code.specs.Machine.{run, begun_count, started}
 
 -- the place of an instruction in the examples: its number as the column

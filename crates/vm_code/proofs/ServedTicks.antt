@@ -1,10 +1,9 @@
 -- A library call gains no tick, and a function that it wants has taken one.
-use Rattle.std.proofs.Common.{◌≡◌, ℕ, zero, suc, ◌+◌, ◌<◌, ◌≤◌, Bool, true, false, List, [], ◌∷◌, Option, Some, None, refl}
+use Rattle.std.proofs.Common.{◌≡◌, ℕ, zero, suc, ◌<◌, ◌≤◌, Bool, true, false, List, [], ◌∷◌, Option, Some, None, refl}
 use Rattle.std.proofs.Common.{sym, ◌∙◌, subst, arith}
 use Rattle.critical_table.specs.declared.pos.Pos.{Pos}
 use Rattle.object_store.specs.declared.class.Class.TheVariants.{Allocated}
 use Rattle.object_store.specs.declared.pointer.Pointer.{Pointer}
-use Rattle.lib_defs.specs.declared.row.Row.{Row}
 use Rattle.lib_defs.specs.declared.value.Arg.{Arg}
 use Rattle.lib_defs.specs.declared.value.Value.{Value}
 use Rattle.lib_defs.specs.declared.value.Value.TheVariants.{Ptr}
@@ -14,14 +13,15 @@ use Rattle.lib_defs.specs.Reply.{Fill, patch_of, Change, Stop, FailsReach, Fails
 use Rattle.lib_defs.specs.Reply.{Did, Done, Broken, Asks, Fails}
 use Rattle.lib_defs.specs.Shown.{line_values}
 use Rattle.lib_defs.specs.World.{Reply}
-use Rattle.run_defs.specs.declared.event.Event.TheVariants.{Called, Violated, HandlerCalled, HandlerReturned}
+use Rattle.run_defs.specs.declared.event.Event.TheVariants.{Called, Violated, HandlerCalled}
 use Rattle.run_defs.specs.declared.library_call.LibraryCall.{LibraryCall}
 use Rattle.run_defs.specs.declared.library_call.Suspended.{Suspended}
 use Rattle.run_defs.specs.declared.library_call.Waits.{Waits}
 use Rattle.run_defs.specs.declared.library_call.Waits.TheVariants.{ForHandler, ForFunction}
 use Rattle.run_defs.specs.State.{State, logged, with_streams, made, all_patched}
 use Rattle.run_defs.specs.Evaluation.{Evaluation, Gives, Stops, bind, ticked_at, ticked}
-use Rattle.run_defs.specs.Functions.{Function, OfLibrary, OfUnit, Environment, function_at, function_number, handler_name}
+use Rattle.run_defs.specs.Functions.{Function, OfLibrary, OfUnit, Environment, function_at, function_number}
+use Rattle.run_defs.specs.Functions.{handler_name}
 use Rattle.run_defs.specs.Functions.{Handles, ByUnit, ByLibrary, OfOtherType, handles}
 use Rattle.run_defs.specs.Served.{Served, Answers, Wants, stopped, row_made, row_released, row_set, changed, returned}
 use Rattle.run_defs.specs.Served.{acted, told, row_handled, Failure, handled, violated, Wish, asked, served, replied}

@@ -1,16 +1,13 @@
 -- No step of a run gains a tick, and a function that a library call wants has taken one.
-use Rattle.std.proofs.Common.{◌≡◌, ℕ, zero, suc, ◌+◌, ◌<◌, ◌≤◌, Bool, true, false, List, [], ◌∷◌, Option, Some, None}
-use Rattle.std.proofs.Common.{Result, Ok, Err, refl, sym, ◌∙◌, subst, arith, if◌then◌else◌}
-use Rattle.acc_num.specs.declared.fault.NumFault.{NumFault}
+use Rattle.std.proofs.Common.{◌≡◌, ℕ, zero, suc, ◌≤◌, Bool, true, false, List, [], ◌∷◌, Option, Some, None}
+use Rattle.std.proofs.Common.{refl, sym, ◌∙◌, subst, arith, if◌then◌else◌}
 use Rattle.critical_table.specs.declared.case.Case.{Case}
-use Rattle.critical_table.specs.declared.code.Code.{Code}
 use Rattle.critical_table.specs.declared.pos.Pos.{Pos}
 use Rattle.object_store.specs.declared.class.Class.TheVariants.{Automatic}
 use Rattle.object_store.specs.declared.pointer.Pointer.{Pointer}
 use Rattle.object_store.specs.Storage.{fits}
 use Rattle.object_store.specs.Steps.{next_number, with_call}
 use Rattle.object_store.specs.Reach.{reach}
-use Rattle.lib_defs.specs.declared.value.Value.{Value}
 use Rattle.lib_defs.specs.Reply.{Patch}
 use Rattle.run_defs.specs.declared.attempt.Attempt.{Attempt}
 use Rattle.run_defs.specs.declared.seal.Seal.{Seal}

@@ -1,15 +1,15 @@
 -- Codes on either side of what is asked of valid code.
-use Rattle.std.proofs.Common.{◌≡◌, ◌≢◌, ℕ, zero, suc, ◌+◌, ◌<◌, ◌≤◌, Bool, true, false, List, [], ◌∷◌, Contains}
-use Rattle.std.proofs.Common.{length, Option}
-use Rattle.std.proofs.Common.{Some, None, refl, sym, ◌∙◌, ap, subst, arith, ◌==◌, if◌then◌else◌}
-use Rattle.std.specs.Prelude.{pos, codes, replicate}
+use Rattle.std.proofs.Common.{◌≡◌, ℕ, zero, suc, ◌<◌, ◌≤◌, Bool, true, false, List, [], ◌∷◌, Contains}
+use Rattle.std.proofs.Common.{length}
+use Rattle.std.proofs.Common.{Some, None, refl, ◌∙◌, ap, subst, arith, ◌==◌, if◌then◌else◌}
+use Rattle.std.specs.Prelude.{pos}
 use Rattle.std.specs.List.{slice_get, slice_index_or}
 use Rattle.acc_num.specs.declared.kind.IntKind.TheVariants as k
 use Rattle.critical_table.specs.declared.pos.Pos.{Pos}
 use Rattle.object_store.specs.declared.by.By.TheVariants.{Star}
 use Rattle.lib_defs.specs.declared.value.ArgKind.TheVariants as kind
 use Rattle.c_core.specs.declared.form.Form.TheVariants as form
-use Rattle.c_core.specs.declared.form.Scalar.TheVariants.{Number, Pointer}
+use Rattle.c_core.specs.declared.form.Scalar.TheVariants.{Number}
 use Rattle.vm_code.specs.declared.instr.Instr.{Instr}
 use Rattle.vm_code.specs.declared.instr.Instr.TheVariants as i
 use Rattle.vm_code.specs.declared.parts.CodeFunction.{CodeFunction}
@@ -17,12 +17,12 @@ use Rattle.vm_code.specs.Contents.{Contents}
 use Rattle.vm_code.specs.OperandKinds.{Kinds}
 use Rattle.vm_code.specs.Sound.{Stretch, is_place, is_sound}
 use Rattle.vm_code.specs.Ways.{Slots, slot_made, slots_after, Step, Way, stretch_of}
-use Rattle.vm_code.specs.Valid.{StandsAt, Comes, NoObject, SealsBeyond, OfFunction, BeforeAll, Fails, IsUnsound}
+use Rattle.vm_code.specs.Valid.{StandsAt, Comes, NoObject, SealsBeyond, OfFunction, BeforeAll, Fails}
 use Rattle.vm_code.specs.Valid.{CannotStart, LacksOperand, LacksObject, KindsDiffer, KillsNothing, IsStretch, IsValid}
 use Rattle.vm_code.proofs.Acting.{first_of, second_of}
 use Rattle.vm_code.proofs.ActingOn.{none_is_some}
 use Rattle.vm_code.proofs.Fronts.{some_alone, Front, Covers, Fronts, Fits, AreFronts, HasFronts, valid_by_fronts}
-use Rattle.vm_code.proofs.RunWords.{here, int, function, main, alone, unit, called, gives_int, types_of}
+use Rattle.vm_code.proofs.RunWords.{here, int, main, alone, unit, gives_int, types_of}
 
 -- ---- what is asked of an instruction by itself
 
@@ -232,19 +232,19 @@ nothing_made (suc n) at kinds slots way t =
     let before : way.2 t ≡ None = nothing_made n way.0 way.1 way.2 way.3 t in
     ap (λ (m : Slots). m t) way.4.objects ∙ after_none way.0 way.4.instr way.4.pos way.4.stands way.2 t before
   where
-  after_none : (place : ℕ) (instr : Instr) (there : Pos)
-      → slice_get (alone (i.Kill 0 ∷ i.Leave ∷ [])).instrs place ≡ Some (instr, there) → (m : Slots) (t : ℕ)
-      → m t ≡ None → slots_after instr m t ≡ None
-  after_none zero instr there stands m t none = let P : Instr × Pos → Type 0 = λ x. slots_after x.0 m t ≡ None in
-      subst P (some_alone (i.Kill 0, here 0) (instr, there) stands) (killed_none (t == 0) none)
-    where
-    killed_none : (b : Bool) → m t ≡ None → (if b then None else m t) ≡ None
-    killed_none true is = refl
-    killed_none false is = is
-  after_none (suc zero) instr there stands m t none =
-      let P : Instr × Pos → Type 0 = λ x. slots_after x.0 m t ≡ None in
-      subst P (some_alone (i.Leave, here 1) (instr, there) stands) none
-  after_none (suc (suc place)) instr there stands m t none = absurd (none_is_some (instr, there) stands)
+    after_none : (place : ℕ) (instr : Instr) (there : Pos)
+        → slice_get (alone (i.Kill 0 ∷ i.Leave ∷ [])).instrs place ≡ Some (instr, there) → (m : Slots) (t : ℕ)
+        → m t ≡ None → slots_after instr m t ≡ None
+    after_none zero instr there stands m t none = let P : Instr × Pos → Type 0 = λ x. slots_after x.0 m t ≡ None in
+        subst P (some_alone (i.Kill 0, here 0) (instr, there) stands) (killed_none (t == 0) none)
+      where
+        killed_none : (b : Bool) → m t ≡ None → (if b then None else m t) ≡ None
+        killed_none true is = refl
+        killed_none false is = is
+    after_none (suc zero) instr there stands m t none =
+        let P : Instr × Pos → Type 0 = λ x. slots_after x.0 m t ≡ None in
+        subst P (some_alone (i.Leave, here 1) (instr, there) stands) none
+    after_none (suc (suc place)) instr there stands m t none = absurd (none_is_some (instr, there) stands)
 
 kills_nothing : Fails (alone (i.Kill 0 ∷ i.Leave ∷ [])) 0
 kills_nothing = KillsNothing main [] (λ t. None) 0 main_there (at_start (i.Kill 0 ∷ i.Leave ∷ [])) (here 0, refl)
@@ -263,9 +263,9 @@ starts_at_default = CannotStart late (second_of main late []) refl refl
 is_main : (f : CodeFunction) → Contains (main ∷ []) f → main ≡ f
 is_main f found = at_index found.0 found.1 found.2
   where
-  at_index : (k : ℕ) → k < length (main ∷ []) → slice_index_or (main ∷ []) k f ≡ f → main ≡ f
-  at_index zero within is = is
-  at_index (suc k) within is = absurd (let none : ⊥ = omega (arith, within) in none)
+    at_index : (k : ℕ) → k < length (main ∷ []) → slice_index_or (main ∷ []) k f ≡ f → main ≡ f
+    at_index zero within is = is
+    at_index (suc k) within is = absurd (let none : ⊥ = omega (arith, within) in none)
 
 -- int main(void){return 0;}
 abbrev zero_code : Contents
@@ -274,9 +274,9 @@ zero_code = alone (int 0 ∷ i.Give ∷ [])
 only_one : (one to : ℕ) → Contains (one ∷ []) to → one ≡ to
 only_one one to found = at_index found.0 found.1 found.2
   where
-  at_index : (k : ℕ) → k < length (one ∷ []) → slice_index_or (one ∷ []) k to ≡ to → one ≡ to
-  at_index zero within is = is
-  at_index (suc k) within is = absurd (let none : ⊥ = omega (arith, within) in none)
+    at_index : (k : ℕ) → k < length (one ∷ []) → slice_index_or (one ∷ []) k to ≡ to → one ≡ to
+    at_index zero within is = is
+    at_index (suc k) within is = absurd (let none : ⊥ = omega (arith, within) in none)
 
 abbrev zero_fronts : Fronts
 zero_fronts zero = Some (record { kinds = []; made = λ t. None })
@@ -289,7 +289,8 @@ covers_none slots t size made = absurd (none_is_some size made)
 zero_fits : (at : ℕ) (instr : Instr) (front : Front) → zero_fronts at ≡ Some front → StandsAt zero_code at instr
     → Fits zero_code main zero_fronts at instr front
 zero_fits zero instr front is stands =
-    let P : Instr × Pos → Type 0 = λ x. Fits zero_code main zero_fronts 0 x.0 (record { kinds = []; made = λ t. None }) in
+    let P : Instr × Pos → Type 0 = λ x. Fits zero_code main zero_fronts 0 x.0
+        (record { kinds = []; made = λ t. None }) in
     let Q : Front → Type 0 = λ x. Fits zero_code main zero_fronts 0 instr x in
     subst Q (some_alone (record { kinds = []; made = λ t. None }) front is)
     (subst P (some_alone (int 0, here 0) (instr, stands.0) stands.1) (record {
@@ -299,15 +300,15 @@ zero_fits zero instr front is stands =
       onward = λ to next. to_one to next;
     }))
   where
-  to_one : (to : ℕ) → Contains (1 ∷ []) to → (there : Front) × (zero_fronts to ≡ Some there)
-      × (there.kinds ≡ Number k.I32 ∷ []) × Covers there.made (λ t. None)
-  to_one to next = let P : ℕ → Type 0 = λ n. (there : Front) × (zero_fronts n ≡ Some there)
-      × (there.kinds ≡ Number k.I32 ∷ []) × Covers there.made (λ t. None) in
-      subst P (only_one 1 to next)
-      (record { kinds = Number k.I32 ∷ []; made = λ t. None }, refl, refl, covers_none (λ t. None))
+    to_one : (to : ℕ) → Contains (1 ∷ []) to → (there : Front) × (zero_fronts to ≡ Some there)
+        × (there.kinds ≡ Number k.I32 ∷ []) × Covers there.made (λ t. None)
+    to_one to next = let P : ℕ → Type 0 = λ n. (there : Front) × (zero_fronts n ≡ Some there)
+        × (there.kinds ≡ Number k.I32 ∷ []) × Covers there.made (λ t. None) in
+        subst P (only_one 1 to next)
+        (record { kinds = Number k.I32 ∷ []; made = λ t. None }, refl, refl, covers_none (λ t. None))
 zero_fits (suc zero) instr front is stands =
     let P : Instr × Pos → Type 0 = λ x. Fits zero_code main zero_fronts 1 x.0
-        (record { kinds = Number k.I32 ∷ []; made = λ t. None }) in
+    (record { kinds = Number k.I32 ∷ []; made = λ t. None }) in
     let Q : Front → Type 0 = λ x. Fits zero_code main zero_fronts 1 instr x in
     subst Q (some_alone (record { kinds = Number k.I32 ∷ []; made = λ t. None }) front is)
     (subst P (some_alone (i.Give, here 1) (instr, stands.0) stands.1) (record {
@@ -329,7 +330,8 @@ zero_sound stretch (suc zero) instr (OfFunction f is) from to stands =
     let P : Instr × Pos → Type 0 = λ x. is_sound zero_code (stretch_of zero_code f) 1 x.0 ≡ true in
     let Q : CodeFunction → Type 0 = λ f. is_sound zero_code (stretch_of zero_code f) 1 i.Give ≡ true in
     subst P (some_alone (i.Give, here 1) (instr, stands.0) stands.1) (subst Q (is_main f is) refl)
-zero_sound stretch (suc (suc k)) instr (OfFunction f is) from to stands = absurd (none_is_some (instr, stands.0) stands.1)
+zero_sound stretch (suc (suc k)) instr (OfFunction f is) from to stands = absurd (none_is_some
+    (instr, stands.0) stands.1)
 
 zero_has_fronts : HasFronts zero_code
 zero_has_fronts = record {
@@ -337,13 +339,16 @@ zero_has_fronts = record {
   starts = λ f is. let Q : CodeFunction → Type 0 = λ f. is_place zero_code (stretch_of zero_code f) f.start ≡ true in
       subst Q (is_main f is) refl;
   fronts = λ f is. let Q : CodeFunction → Type 0 = λ f. (fronts : Fronts) × AreFronts zero_code f fronts in
-      subst Q (is_main f is) (zero_fronts, record {
-        first = record { kinds = []; made = λ t. None };
-        start = refl;
-        empty = refl;
-        parameters = covers_none (λ t. None);
-        fits = zero_fits;
-      });
+      subst Q (is_main f is) (
+        zero_fronts,
+        record {
+          first = record { kinds = []; made = λ t. None };
+          start = refl;
+          empty = refl;
+          parameters = covers_none (λ t. None);
+          fits = zero_fits;
+        },
+      );
   own = λ type called is. absurd (none_is_some called is);
 }
 

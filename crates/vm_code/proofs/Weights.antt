@@ -1,23 +1,21 @@
 -- What is left of a run: two passes of the code for each tick, and the rest of each function that runs.
-use Rattle.std.proofs.Common.{◌≡◌, ℕ, zero, suc, ◌+◌, ◌-◌, ◌<◌, ◌≤◌, Bool, true, false, List, [], ◌∷◌, length, Option, Some}
-use Rattle.std.proofs.Common.{None, refl, sym, subst, arith, if◌then◌else◌}
+use Rattle.std.proofs.Common.{ℕ, zero, suc, ◌+◌, ◌-◌, ◌<◌, ◌≤◌, Bool, true, false, List, [], ◌∷◌, length, Option, Some}
+use Rattle.std.proofs.Common.{None, sym, subst, arith}
 use Rattle.std.specs.List.{slice_get}
-use Rattle.critical_table.specs.declared.pos.Pos.{Pos}
 use Rattle.lib_defs.specs.declared.value.Value.{Value}
 use Rattle.run_defs.specs.State.{State, call_left}
-use Rattle.run_defs.specs.Evaluation.{Evaluation, Gives, Stops, ticked_at, ticked, call_entered}
+use Rattle.run_defs.specs.Evaluation.{Evaluation, Gives, Stops, ticked_at, call_entered}
 use Rattle.run_defs.specs.Functions.{Function, OfLibrary, OfUnit, Environment, function_at}
 use Rattle.run_defs.specs.Served.{Served, Answers, Wants, begun, continued}
 use Rattle.c_core.specs.declared.form.Form.{Form}
 use Rattle.object_store.specs.declared.pointer.Pointer.{Pointer}
-use Rattle.vm_code.specs.declared.instr.Instr.{Instr}
 use Rattle.vm_code.specs.declared.parts.CodeFunction.{CodeFunction}
 use Rattle.vm_code.specs.declared.parts.CodeCalled.{CodeCalled}
 use Rattle.vm_code.specs.Contents.{Contents}
 use Rattle.vm_code.specs.Contents as code_parts
 use Rattle.vm_code.specs.CodeFunctions.{calls_function}
-use Rattle.vm_code.specs.Slots.{Held, numbers, all_died}
-use Rattle.vm_code.specs.Frames.{Activation, Frame, Active, Waiting, Place, Goes, Ends, Stuck, after, stops}
+use Rattle.vm_code.specs.Slots.{numbers, all_died}
+use Rattle.vm_code.specs.Frames.{Activation, Frame, Active, Waiting, Place, Goes, Ends, Stuck, after}
 use Rattle.vm_code.specs.Calling.{fit_parameters, parameters_made, Entry, activation, entered_if, entered_at, entered}
 use Rattle.vm_code.specs.Calling.{left_by, row_left, replied, returned, leaves, args_of, row_called, compatible_if}
 use Rattle.vm_code.specs.Calling.{called_at, called_through}

@@ -16,6 +16,7 @@ pub record IsBounded (code : Contents) (budgets : Budgets) (s : State) (instruct
 
 -- So is each run of valid code, over each library.
 abbrev pub RunsAreBounded : Type 0
-RunsAreBounded = (library : Library) (code : Contents) (budgets : Budgets) (input : Input) (outcome : Outcome) (s : State)
+RunsAreBounded = (library : Library) (code : Contents) (budgets : Budgets) (input : Input) (outcome : Outcome)
+    (s : State)
     (instructions : ℕ) → IsValid code → RunsTo library code budgets input outcome s instructions
     → IsBounded code budgets s instructions

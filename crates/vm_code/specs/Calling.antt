@@ -1,6 +1,6 @@
 -- Calls: a function of the unit is entered, and left; a library function does its row (6.5.2.2).
-use Rattle.std.specs.Prelude.{ℕ, zero, suc, ◌+◌, ◌==◌, ◌&&◌, Bool, true, false, pos, List, [], ◌∷◌, ◌++◌, Option, Some}
-use Rattle.std.specs.Prelude.{None, if◌then◌else◌}
+use Rattle.std.specs.Prelude.{ℕ, ◌+◌, ◌&&◌, Bool, true, false, pos, List, [], ◌∷◌, ◌++◌, Option, Some}
+use Rattle.std.specs.Prelude.{None}
 use Rattle.critical_table.specs.declared.case.Case.TheVariants.{L3, L6}
 use Rattle.critical_table.specs.declared.pos.Pos.{Pos}
 use Rattle.object_store.specs.declared.pointer.Pointer.{Pointer}
@@ -11,11 +11,10 @@ use Rattle.lib_defs.specs.declared.value.Value.{Value}
 use Rattle.lib_defs.specs.declared.value.Value.TheVariants.{Num, Ptr, Nothing}
 use Rattle.lib_defs.specs.Reply.{null}
 use Rattle.lib_defs.specs.RowTable.{modulo_byte}
-use Rattle.run_defs.specs.declared.library_call.Suspended.{Suspended}
 use Rattle.run_defs.specs.declared.outcome.Outcome.TheVariants.{Exited}
 use Rattle.run_defs.specs.State.{State, call_left}
 use Rattle.run_defs.specs.Evaluation.{Evaluation, Gives, Stops, bind, fails_value, ticked, automatic_made, call_entered}
-use Rattle.run_defs.specs.Functions.{Function, OfLibrary, OfUnit, Environment, function_number, function_at}
+use Rattle.run_defs.specs.Functions.{Function, OfLibrary, OfUnit, Environment, function_at}
 use Rattle.run_defs.specs.Functions.{function_name, value_shown}
 use Rattle.run_defs.specs.Served.{Served, Answers, Wants, begun, continued}
 use Rattle.c_core.specs.declared.form.Form.{Form}

@@ -1,5 +1,7 @@
 -- The definitions, in the order in which they are read.
 pub mod Contents
+pub mod Built
+pub mod Inner
 pub mod Accesses
 pub mod Pointers
 pub mod Operators
@@ -8,6 +10,7 @@ pub mod Frames
 pub mod CodeFunctions
 pub mod Calling
 pub mod Machine
+pub mod OneEnd
 pub mod OperandKinds
 pub mod Sound
 pub mod Ways

@@ -16,7 +16,6 @@ use Rattle.lib_defs.specs.Library.{Library}
 use Rattle.lib_defs.specs.Units.{size}
 use Rattle.lib_defs.specs.Reply.{null}
 use Rattle.lib_defs.specs.World.{Input}
-use Rattle.run_defs.specs.declared.attempt.Attempt.{Attempt}
 use Rattle.run_defs.specs.declared.outcome.Outcome.{Outcome}
 use Rattle.run_defs.specs.State.{State, sealed, died, patched}
 use Rattle.run_defs.specs.Evaluation.{Evaluation, Gives, bind, undefined, ticked, reached, stored, automatic_made}

@@ -1,5 +1,5 @@
 -- The kinds of the operands that each instruction finds and leaves, the top first.
-use Rattle.std.specs.Prelude.{ℕ, ◌&&◌, Bool, true, false, not, List, [], ◌∷◌, reverse, Option, Some, None}
+use Rattle.std.specs.Prelude.{Bool, true, false, List, [], ◌∷◌, reverse, Option, Some, None}
 use Rattle.std.specs.Prelude.{if◌then◌else◌}
 use Rattle.std.specs.List.{slice_get}
 use Rattle.std.specs.Option.{option_and_then, option_map}
@@ -15,7 +15,6 @@ use Rattle.c_core.specs.Operations.{is_shift}
 use Rattle.vm_code.specs.declared.instr.Instr.{Instr}
 use Rattle.vm_code.specs.declared.instr.Instr.TheVariants as i
 use Rattle.vm_code.specs.declared.parts.CodeCalled.{CodeCalled}
-use Rattle.vm_code.specs.declared.parts.CodeFunction.{CodeFunction}
 use Rattle.vm_code.specs.Contents.{Contents}
 
 -- A kind of operands is a kind of integers, or pointers: a place is a pointer too.

@@ -1,6 +1,6 @@
 -- What the operators make of pointers (6.5.2.3, 6.5.6, 6.5.8, 6.5.9). Only their four numbers are looked at: a pointer
 -- to an object whose lifetime has ended may be moved and compared, and traps where it is reached.
-use Rattle.std.specs.Prelude.{ℕ, ◌+◌, ◌%◌, ◌^◌, ◌==◌, nat_lt, nat_le, Bool, true, false, not, ◌&&◌, ◌||◌, ℤ, pos}
+use Rattle.std.specs.Prelude.{ℕ, ◌+◌, ◌%◌, ◌^◌, ◌==◌, nat_lt, nat_le, Bool, ◌&&◌, ◌||◌, ℤ, pos}
 use Rattle.std.specs.Prelude.{◌+ℤ◌, ◌-ℤ◌, ◌*ℤ◌, neg_ℤ, int_le, int_div, unsigned_abs, Result, Ok, Err, if◌then◌else◌}
 use Rattle.std.specs.Int.{int_rem_euclid}
 use Rattle.acc_num.specs.Operations.{is_zero}

@@ -1,6 +1,6 @@
 -- What is asked of an instruction by itself, whether a way comes to it or not.
 use Rattle.std.specs.Prelude.{ℕ, zero, suc, ◌+◌, ◌==◌, nat_lt, nat_le, ◌&&◌, ◌||◌, Bool, true, false, not, List, []}
-use Rattle.std.specs.Prelude.{◌∷◌, ◌++◌, length, Option, Some, None, is_some, if◌then◌else◌}
+use Rattle.std.specs.Prelude.{◌∷◌, length, Option, Some, None}
 use Rattle.std.specs.List.{slice_get, list_all}
 use Rattle.std.specs.Option.{option_map_or}
 use Rattle.acc_num.specs.Numbers.{in_range}
@@ -10,7 +10,7 @@ use Rattle.lib_defs.specs.declared.row_name.RowName.{RowName}
 use Rattle.lib_defs.specs.declared.value.ArgKind.{ArgKind}
 use Rattle.lib_defs.specs.Prototypes.{Gives, GivesNumber, GivesPointer, GivesNothing, given_by, Prototype, prototype}
 use Rattle.lib_defs.specs.RowNumbers.{name_at}
-use Rattle.run_defs.specs.Functions.{Function, OfLibrary, OfUnit}
+use Rattle.run_defs.specs.Functions.{Function, OfLibrary}
 use Rattle.c_core.specs.declared.form.Form.{Form}
 use Rattle.c_core.specs.declared.form.Form.TheVariants as form
 use Rattle.vm_code.specs.declared.instr.Instr.{Instr}
@@ -22,7 +22,8 @@ use Rattle.vm_code.specs.OperandKinds.{same_kind}
 
 -- ---- where an instruction leads
 
--- a stretch of the code: that of a function, or the one before the first start; with the form of what the function gives
+-- a stretch of the code: that of a function, or the one before the first start; with the form of what the function
+-- gives
 pub record Stretch : Type 0 where
   pub from : ℕ
   pub to : ℕ

@@ -1,9 +1,8 @@
 -- Valid code: no instruction fails, by itself or on a way that comes to it.
-use Rattle.std.specs.Prelude.{◌≡◌, ◌≢◌, ℕ, ◌+◌, ◌<◌, ◌≤◌, Bool, true, false, List, Contains, length, map, Option}
+use Rattle.std.specs.Prelude.{◌≡◌, ◌≢◌, ℕ, ◌+◌, ◌<◌, ◌≤◌, false, Contains, length, map}
 use Rattle.std.specs.Prelude.{Some, None}
-use Rattle.std.specs.List.{slice_get, All}
+use Rattle.std.specs.List.{slice_get}
 use Rattle.critical_table.specs.declared.pos.Pos.{Pos}
-use Rattle.c_core.specs.declared.form.Form.{Form}
 use Rattle.vm_code.specs.declared.instr.Instr.{Instr}
 use Rattle.vm_code.specs.declared.instr.Instr.TheVariants as i
 use Rattle.vm_code.specs.declared.parts.Parameter.{Parameter}

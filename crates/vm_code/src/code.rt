@@ -2,6 +2,7 @@
 ghost use Rattle.std.specs.Prelude.{◌≡◌, ◌+◌, ◌<◌, [], ◌∷◌, ◌++◌, length, IfOk, OnOk, OnErr};
 ghost use Rattle.vm_code.specs.Contents.{no_code, with_instr, function_room, type_room, IsFreeStart, FunctionFits};
 ghost use Rattle.vm_code.specs.Contents.{ObjectFits};
+ghost use Rattle.vm_code.specs.Built.{IsBuilt};
 
 use crate::instr::Instr;
 use crate::parts::{CodeCalled, CodeFunction, CodeObject, Parameter};
@@ -30,13 +31,11 @@ impl Model for Code {
 
     ghost Value = { Contents };
 
-    ghost view = { λ code. record {
-      instrs = code.instrs.items;
-      functions = code.functions.items;
-      objects = code.objects.items;
-      texts = code.texts.items;
-      types = code.types.items;
-    } };
+    ghost use Rattle.vm_code.specs.Inner.{contents_of, IsBuiltInside};
+
+    ghost view = { contents_of };
+
+    ghost invariant = { IsBuiltInside };
 }
 
 impl Code {
@@ -172,5 +171,12 @@ impl Code {
             form,
         })?;
         Ok(index)
+    }
+
+    /// What is known of each code that is built.
+    pub fn built_law(&self)
+        ensures { IsBuilt self.now }
+    {
+        let _instrs = &self.instrs;
     }
 }

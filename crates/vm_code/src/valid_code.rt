@@ -1,6 +1,7 @@
 //! Valid code.
 ghost use Rattle.std.specs.Prelude.{◌≡◌, slice_get, option_copied};
 ghost use Rattle.vm_code.specs.Contents.{function_at};
+ghost use Rattle.vm_code.specs.Built.{IsBuilt};
 ghost use Rattle.vm_code.specs.Valid.{IsValid};
 
 use crate::code::Code;
@@ -74,8 +75,9 @@ impl ValidCode {
 
     /// What is known of each such code.
     pub fn valid_law(&self)
-        ensures { IsValid self.now }
+        ensures valid { IsValid self.now }
+        ensures built { IsBuilt self.now }
     {
-        let _code = &self.code;
+        self.code.built_law();
     }
 }
