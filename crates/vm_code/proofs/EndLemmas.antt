@@ -1,5 +1,5 @@
 -- A run that is over stays so, and has one end.
-use Rattle.std.proofs.Common.{◌≡◌, ℕ, zero, suc, ◌+◌, ◌<◌, ◌≤◌, ◌⊎◌, inl, inr, List, refl, sym, ◌∙◌, ap, arith}
+use Rattle.std.proofs.Common.{◌≡◌, ℕ, zero, suc, ◌+◌, ◌≤◌, inl, inr, refl, sym, ◌∙◌, ap, arith}
 use Rattle.std.proofs.lemmas.Bool.{cases_lt}
 use Rattle.lib_defs.specs.Library.{Library}
 use Rattle.lib_defs.specs.World.{Input}
@@ -10,7 +10,7 @@ use Rattle.run_defs.specs.Functions.{Environment}
 use Rattle.run_defs.specs.Starts.{Budgets}
 use Rattle.vm_code.specs.Contents.{Contents}
 use Rattle.vm_code.specs.CodeFunctions.{environment}
-use Rattle.vm_code.specs.Frames.{Frame, Place, Goes, Ends, Stuck}
+use Rattle.vm_code.specs.Frames.{Place, Goes, Ends, Stuck}
 use Rattle.vm_code.specs.Machine.{step, run, begun_count, started, RunsTo}
 use Rattle.vm_code.specs.OneEnd.{IsSameEnd}
 use Rattle.vm_code.proofs.Counted.{ends_state, stuck_ends, goes_ends}
@@ -35,8 +35,8 @@ module _ (e : Environment) (code : Contents) where
   lasting (suc n) zero (Goes frames there) outcome s le is = absurd (let none : ⊥ = omega (arith, le) in none)
   lasting (suc n) (suc k) (Goes frames there) outcome s le is =
       let rest : (run e code (step e code frames there) k ≡ Ends outcome s)
-              × (begun_count e code (step e code frames there) k ≡ begun_count e code (step e code frames there) n) =
-          lasting n k (step e code frames there) outcome s (omega (arith, le)) is in
+      × (begun_count e code (step e code frames there) k ≡ begun_count e code (step e code frames there) n) =
+      lasting n k (step e code frames there) outcome s (omega (arith, le)) is in
       (rest.0, ap (λ m. m + 1) rest.1)
 
 same_if : (library : Library) (code : Contents) (budgets : Budgets) (input : Input) (outcome : Outcome) (s : State)
@@ -44,10 +44,10 @@ same_if : (library : Library) (code : Contents) (budgets : Budgets) (input : Inp
     → RunsTo library code budgets input other t k → n ≤ k → IsSameEnd outcome s n other t k
 same_if library code budgets input outcome s n other t k first second le =
     let still : (run (environment library code) code (started library code budgets input) k ≡ Ends outcome first.before)
-            × (begun_count (environment library code) code (started library code budgets input) k
-            ≡ begun_count (environment library code) code (started library code budgets input) n) =
-        lasting (environment library code) code n k (started library code budgets input) outcome first.before le
-        first.ends in
+    × (begun_count (environment library code) code (started library code budgets input) k
+    ≡ begun_count (environment library code) code (started library code budgets input) n) =
+    lasting (environment library code) code n k (started library code budgets input) outcome first.before le
+    first.ends in
     let ends : Ends outcome first.before ≡ Ends other second.before = sym still.0 ∙ second.ends in
     let outcomes : outcome ≡ other = ends_outcome outcome first.before other second.before ends in
     let befores : first.before ≡ second.before = ends_state outcome first.before other second.before ends in
@@ -61,8 +61,8 @@ pub one_end : (library : Library) (code : Contents) (budgets : Budgets) (input :
     (n : ℕ) (other : Outcome) (t : State) (k : ℕ) → RunsTo library code budgets input outcome s n
     → RunsTo library code budgets input other t k → IsSameEnd outcome s n other t k
 one_end library code budgets input outcome s n other t k first second = elim (cases_lt n k) [
-  inl less ↦ same_if library code budgets input outcome s n other t k first second (omega (arith, less))
+  | inl less ↦ same_if library code budgets input outcome s n other t k first second (omega (arith, less))
   | inr more ↦ let back : IsSameEnd other t k outcome s n =
-        same_if library code budgets input other t k outcome s n second first more in
+      same_if library code budgets input other t k outcome s n second first more in
       record { outcomes = sym back.outcomes; states = sym back.states; instructions = sym back.instructions }
 ]

@@ -49,7 +49,7 @@ pub record Fits (code : Contents) (f : CodeFunction) (fronts : Fronts) (at : ℕ
   pub slots : SlotsMade instr front.made
   pub onward : (to : ℕ) → Contains (next_places code at instr) to
       → (there : Front) × (fronts to ≡ Some there) × (there.kinds ≡ left) × Covers there.made
-          (slots_after instr front.made)
+      (slots_after instr front.made)
 
 -- the fronts of a function's code
 pub record AreFronts (code : Contents) (f : CodeFunction) (fronts : Fronts) : Type 0 where
@@ -119,11 +119,6 @@ module _ (code : Contents) (f : CodeFunction) (fronts : Fronts) (are : AreFronts
   }
   on_way (suc n) at kinds slots w =
       on_step w.0 w.1 w.2 at kinds slots (on_way n w.0 w.1 w.2 w.3) w.4
-
-  -- a slot that a front has made, on each way to it
-  on_made : (at : ℕ) (kinds : Kinds) (slots : Slots) (a : AtFront fronts at kinds slots) (slot size : ℕ)
-      → a.front.made slot ≡ Some size → slots slot ≡ Some size
-  on_made at kinds slots a slot size made = a.covers slot size made
 
   same_front : (at : ℕ) (kinds others : Kinds) (slots more : Slots) → AtFront fronts at kinds slots
       → AtFront fronts at others more → kinds ≡ others

@@ -55,10 +55,6 @@ pub leaves_bind : {A B : Type 0} (t : ℕ) (x : Evaluation A) (next : A → Stat
 leaves_bind t (Gives value s) next le go = go value s le
 leaves_bind t (Stops outcome s) next le go = le
 
-pub leaves_less : {A : Type 0} (t u : ℕ) (x : Evaluation A) → Leaves t x → t ≤ u → Leaves u x
-leaves_less t u (Gives value s) le more = omega (arith, le, more)
-leaves_less t u (Stops outcome s) le more = omega (arith, le, more)
-
 leaves_ticked_at : (n t : ℕ) (s : State) → s.ticks ≤ t → n ≤ t → Leaves t (ticked_at n s)
 leaves_ticked_at zero t s le less = le
 leaves_ticked_at (suc n) t s le less = omega (arith, less)

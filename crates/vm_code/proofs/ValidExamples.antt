@@ -290,7 +290,7 @@ zero_fits : (at : ℕ) (instr : Instr) (front : Front) → zero_fronts at ≡ So
     → Fits zero_code main zero_fronts at instr front
 zero_fits zero instr front is stands =
     let P : Instr × Pos → Type 0 = λ x. Fits zero_code main zero_fronts 0 x.0
-        (record { kinds = []; made = λ t. None }) in
+    (record { kinds = []; made = λ t. None }) in
     let Q : Front → Type 0 = λ x. Fits zero_code main zero_fronts 0 instr x in
     subst Q (some_alone (record { kinds = []; made = λ t. None }) front is)
     (subst P (some_alone (int 0, here 0) (instr, stands.0) stands.1) (record {
