@@ -19,7 +19,8 @@ use Rattle.run_defs.specs.Replay.{IsLawful}
 use Rattle.run_defs.specs.Kept.{At, Keeps, most_objects}
 use Rattle.run_defs.specs.Starts.{Budgets, StaticObject, start_state}
 use Rattle.run_defs.proofs.Following.{at_tick, quiet_closes, keeps_bind, keeps_tick}
-use Rattle.run_defs.proofs.Starting.{IsStatic, statics_keep, at_begin, start_size}
+use Rattle.run_defs.specs.KeptSteps.{IsStatic}
+use Rattle.run_defs.proofs.Starting.{statics_keep, at_begin, start_size}
 use Rattle.c_core.specs.TreeUnit.{StaticValue, StaticNumber, StaticNull, StaticAddress, StaticFunction, StaticBytes}
 use Rattle.c_core.specs.TreeUnit.{StaticItem, Static, Definition, Program}
 use Rattle.c_core.specs.TypedUnit.{value_size, ItemsTyped, StaticTyped, StaticsTyped}

@@ -4,6 +4,7 @@ pub mod KeptExpressions
 pub mod KeptStatements
 pub mod KeptCalls
 pub mod LawfulRuns
+mod LawfulUnit
 pub mod Lengths
 pub mod StatementLengths
 pub mod Sizes

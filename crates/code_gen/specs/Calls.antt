@@ -1,5 +1,6 @@
 -- What a call does (6.5.2.2), and what a function of the unit does (6.9.1).
 use Rattle.std.specs.Prelude.{ℕ, zero, suc, Bool, true, false, List, [], reverse, Option, Some, None, unwrap_or}
+use Rattle.std.specs.Prelude.{pos as positive}
 use Rattle.std.specs.Str.{bytes_eq}
 use Rattle.critical_table.specs.declared.case.Case.TheVariants.{L3, L6}
 use Rattle.critical_table.specs.declared.pos.Pos.{Pos}
@@ -8,7 +9,7 @@ use Rattle.c_types.specs.CType.{CType, Plain, Pointer as PointerType}
 use Rattle.c_types.specs.Compatible.{compatible}
 use Rattle.lib_defs.specs.declared.value.Arg.{Arg}
 use Rattle.lib_defs.specs.declared.value.Value.{Value}
-use Rattle.lib_defs.specs.declared.value.Value.TheVariants.{Ptr, Nothing}
+use Rattle.lib_defs.specs.declared.value.Value.TheVariants.{Num, Ptr, Nothing}
 use Rattle.lib_defs.specs.Library.{Library, values_of}
 use Rattle.lib_defs.specs.Reply.{null}
 use Rattle.run_defs.specs.declared.outcome.Outcome.TheVariants.{OutOfTicks}
@@ -20,7 +21,6 @@ use Rattle.run_defs.specs.Calls as entering
 use Rattle.c_core.specs.TreeUnit.{Definition, Program}
 use Rattle.c_core.specs.TypedUnit.{main_name}
 use Rattle.vm_code.specs.Slots.{numbers, all_died}
-use Rattle.vm_code.specs.Operators.{told}
 use Rattle.code_gen.specs.ProgramFunctions.{Named, UnitFunction, LibraryFunction, function_numbered, designated_by}
 use Rattle.code_gen.specs.ProgramFunctions.{type_of_function, environment}
 use Rattle.code_gen.specs.Expressions.{Call}
@@ -79,7 +79,7 @@ returned_value other = None
 
 -- the end of `main` returns 0 (5.1.2.2.3)
 abbrev pub main_value : Bool → Option Value → Option Value
-main_value true None = Some (told false)
+main_value true None = Some (Num (positive 0))
 main_value is_main value = value
 
 -- An activation: its bytes are counted, its parameters are made, stored and marked, and its body runs. Then its
