@@ -1,8 +1,8 @@
 -- What an object of a type holds, and what is passed or stored as one (6.2.5, 6.2.6).
-use Rattle.std.specs.Prelude.{ℕ, List, Option, Some, None, option_map, if◌then◌else◌}
+use Rattle.std.specs.Prelude.{ℕ, List, Option, Some, None, if◌then◌else◌}
 use Rattle.c_types.specs.declared.basic.Basic.{Basic}
 use Rattle.c_types.specs.declared.layout.Layout.{Layout}
-use Rattle.c_types.specs.CType.{CType, Plain, Array, BasicType, Pointer, Compound}
+use Rattle.c_types.specs.CType.{CType, Plain, Pointer, Compound}
 use Rattle.c_types.specs.Layouts.{layout_of}
 use Rattle.c_types.specs.Structures.{Structure}
 use Rattle.c_core.specs.declared.form.Content.{Content}

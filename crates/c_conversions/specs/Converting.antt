@@ -1,5 +1,5 @@
 -- Values as other types (6.3, 6.5.16.1). What may be converted is told apart from what the conversion makes.
-use Rattle.std.specs.Prelude.{Bool, false, true, not, ◌&&◌, ◌||◌, ℤ, List, Option, Some, None, Result, Ok, Err}
+use Rattle.std.specs.Prelude.{Bool, false, not, ◌&&◌, ◌||◌, ℤ, List, Option, Some, None, Result, Ok, Err}
 use Rattle.std.specs.Prelude.{if◌then◌else◌}
 use Rattle.acc_num.specs.Operations.{is_zero}
 use Rattle.c_types.specs.declared.basic.Basic.{Basic}
@@ -9,7 +9,7 @@ use Rattle.c_types.specs.Layouts.{layout_of}
 use Rattle.c_types.specs.Structures.{Structure}
 use Rattle.c_core.specs.declared.fault.ConstFault.{ConstFault}
 use Rattle.c_core.specs.Constant.{constant_of}
-use Rattle.c_core.specs.Tree.{Core, At, type_in, pos_in}
+use Rattle.c_core.specs.Tree.{Core, At, Node, type_in, pos_in}
 use Rattle.c_core.specs.Tree as tree
 use Rattle.c_conversions.specs.Kinds.{basic_type, pointer_to, integer_in, is_integer, is_basic, int_kind, promoted}
 use Rattle.c_conversions.specs.Versions.{pointee, is_pointer, is_compound, is_void, is_function, has_quals_of}
@@ -62,13 +62,12 @@ abbrev pub pointer_converts : CType → Option CType → Bool
 pointer_converts to None = false
 pointer_converts to (Some from) = targets_convert to from
 
-abbrev pub pointer_at : Bool → CType → Core → Core
-pointer_at is_null type core =
-    if is_null then At type (pos_in core) tree.Null else At type (pos_in core) (tree.Retype core)
+abbrev pub pointer_node : Bool → Core → Node
+pointer_node is_null core = if is_null then tree.Null else tree.Retype core
 
 -- a null pointer constant or a pointer as a pointer of this type (6.3.2.3)
 abbrev pub pointer_as : CType → Part → Core
-pointer_as type part = pointer_at (is_null part) type part.core
+pointer_as type part = At type (pos_in part.core) (pointer_node (is_null part) part.core)
 
 -- ---- as if by assignment
 

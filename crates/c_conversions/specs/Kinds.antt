@@ -5,7 +5,7 @@ use Rattle.acc_num.specs.declared.kind.IntKind.TheVariants as k
 use Rattle.acc_num.specs.Kinds.{width_of}
 use Rattle.c_types.specs.declared.basic.Basic.{Basic}
 use Rattle.c_types.specs.declared.basic.Basic.TheVariants as b
-use Rattle.c_types.specs.CType.{CType, Plain, Array, BasicType, Enumerated, Pointer, no_quals, number_of}
+use Rattle.c_types.specs.CType.{CType, Plain, BasicType, Enumerated, Pointer, no_quals, number_of}
 
 abbrev pub basic_type : Basic → CType
 basic_type basic = Plain (BasicType basic) no_quals

@@ -1,11 +1,10 @@
 -- What types are and what they point to, without regard to qualifiers, and versions of compatible types (6.2.5, 6.7.3).
-use Rattle.std.specs.Prelude.{Bool, true, false, not, ◌&&◌, ◌||◌, Option, Some, None, is_some}
+use Rattle.std.specs.Prelude.{Bool, true, false, not, ◌&&◌, ◌||◌, Option, Some, None}
 use Rattle.c_types.specs.declared.basic.Basic.{Basic}
 use Rattle.c_types.specs.declared.basic.Basic.TheVariants.{Void}
 use Rattle.c_types.specs.declared.shape.Quals.{Quals}
-use Rattle.c_types.specs.CType.{CType, Plain, Array, Bare, BasicType, Pointer, Function, Compound, Enumerated, no_quals}
+use Rattle.c_types.specs.CType.{CType, Plain, Array, BasicType, Pointer, Function, Compound, no_quals}
 use Rattle.c_types.specs.Compatible.{agree, compatible}
-use Rattle.c_types.specs.Qualified.{without_quals}
 use Rattle.c_conversions.specs.Kinds.{is_integer}
 
 -- what a pointer type points to (6.2.5p20)

@@ -3,7 +3,8 @@ ghost use Rattle.std.specs.Prelude.{◌≡◌, ◌<◌, IfOk, IfSome, option_map
 ghost use Rattle.c_types.specs.CType.{type_of};
 ghost use Rattle.c_types.specs.Structures.{structures_of};
 ghost use Rattle.c_types.specs.Types.{count_of};
-ghost use Rattle.c_core.specs.Ids.{CoreIn, IdIn};
+ghost use Rattle.c_core.specs.Ids.{CoreIn};
+ghost use Rattle.c_core.specs.Tree.{At};
 ghost use Rattle.c_core.specs.View.{core_of};
 ghost use Rattle.c_scopes.specs.Clauses.{Makes};
 ghost use Rattle.c_conversions.specs.Converting as spec;
@@ -16,6 +17,7 @@ use crate::value::pointer_to;
 use crate::versions::{are_versions, has_quals_of, is_compound, is_function, is_pointer, is_void, pointee};
 use c_core::{CoreExpr, CoreNode, constant};
 use c_types::{Basic, Shape, TypeId, TypeTable};
+use critical_table::Pos;
 use std::alloc::AllocError;
 
 /// An integer in another integer type (6.3.1.2, 6.3.1.3); one that has the type stays as it is.
@@ -58,8 +60,8 @@ pub fn truth_value(types: &TypeTable, core: CoreExpr) -> Result<CoreExpr, AllocE
     Ok(CoreExpr { of, pos, node })
 }
 
-// An integer constant expression with the value 0.
-fn is_zero_constant(types: &TypeTable, core: &CoreExpr) -> bool
+/// An integer constant expression with the value 0.
+pub fn is_zero_constant(types: &TypeTable, core: &CoreExpr) -> bool
     requires { CoreIn types.now core.now }
     ensures { result ≡ spec.is_zero_constant (core_of types.now core.now) }
 {
@@ -103,28 +105,28 @@ fn pointer_converts(types: &TypeTable, to: TypeId, from: Option<TypeId>) -> bool
     }
 }
 
-// A null pointer constant or a pointer as a pointer of that type.
+/// A null pointer constant or a pointer as a pointer of that type, at that place.
 #[tactic(auto, using(c_scopes::proofs::Keeps::keeps_own))]
-fn pointer_at(
+pub fn pointer_at(
     types: &TypeTable,
     of: TypeId,
-    is_null: bool,
-    core: CoreExpr,
+    pos: Pos,
+    operand: Operand,
 ) -> Result<CoreExpr, AllocError>
     requires of { of.0 < count_of types.now }
-    requires core { CoreIn types.now core }
-    ensures { IfOk result (Makes core_of CoreIn (spec.pointer_at is_null (type_of types.now of)
-        (core_of types.now core)) types.now types.now) }
+    requires operand { PartIn types.now operand }
+    ensures { IfOk result (Makes core_of CoreIn (At (type_of types.now of) pos
+        (spec.pointer_node (spec.is_null (part_of types.now operand)) (core_of types.now operand.core)))
+        types.now types.now) }
 {
-    let pos = core.pos;
-    if is_null {
+    if is_null(types, &operand) {
         return Ok(CoreExpr {
             of,
             pos,
             node: CoreNode::Null,
         });
     }
-    let node = CoreNode::Retype(Box::new(types.alloc(), core)?);
+    let node = CoreNode::Retype(Box::new(types.alloc(), operand.core)?);
     Ok(CoreExpr { of, pos, node })
 }
 
@@ -135,11 +137,12 @@ pub fn pointer_as(types: &TypeTable, of: TypeId, operand: Operand) -> Result<Cor
     ensures { IfOk result (Makes core_of CoreIn (spec.pointer_as (type_of types.now of) (part_of types.now operand))
         types.now types.now) }
 {
-    let null = is_null(types, &operand);
-    pointer_at(types, of, null, operand.core)
+    let pos = operand.core.pos;
+    pointer_at(types, of, pos, operand)
 }
 
-fn is_integer_or_truth(types: &TypeTable, to: TypeId, from: TypeId) -> bool
+/// Integers may become integers, and pointers `_Bool`.
+pub fn is_integer_or_truth(types: &TypeTable, to: TypeId, from: TypeId) -> bool
     requires to { to.0 < count_of types.now }
     requires from { from.0 < count_of types.now }
     ensures { result ≡ spec.is_integer_or_truth (type_of types.now to) (type_of types.now from) }
@@ -217,6 +220,18 @@ pub fn assigned(
             number_or_same(types, basic, operand.core)
         }
     }
+}
+
+/// An argument for a parameter of that type (6.5.2.2p7).
+pub fn passed(types: &mut TypeTable, to: TypeId, operand: Operand) -> Result<CoreExpr, AllocError>
+    requires to { to.0 < count_of types.old }
+    requires operand { PartIn types.old operand }
+    ensures { IfOk result (Makes core_of CoreIn (spec.passed (structures_of types.old) (type_of types.old to)
+        (part_of types.old operand)) types.old types.new) }
+{
+    let core = assigned(types, to, operand)?;
+    let made = argument(types, core)?;
+    Ok(made)
 }
 
 /// An argument; a structure or union is copied to an object of its own (6.5.2.2p4).

@@ -1,5 +1,5 @@
 -- Members of structures and unions (6.5.2.3).
-use Rattle.std.specs.Prelude.{ℕ, Bool, false, List, [], ◌∷◌, Option, Some, None, is_some}
+use Rattle.std.specs.Prelude.{ℕ, false, List, [], ◌∷◌, Option, Some, None, is_some}
 use Rattle.critical_table.specs.declared.pos.Pos.{Pos}
 use Rattle.c_types.specs.CType.{CType, void, quals_of}
 use Rattle.c_types.specs.Qualified.{with_quals}

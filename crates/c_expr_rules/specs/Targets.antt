@@ -8,7 +8,7 @@ use Rattle.c_types.specs.Layouts.{layout_of}
 use Rattle.c_types.specs.Structures.{Structure}
 use Rattle.c_core.specs.declared.operator.Stride.{Stride}
 use Rattle.c_core.specs.Tree.{type_in}
-use Rattle.c_conversions.specs.Kinds.{integer_in, promoted}
+use Rattle.c_conversions.specs.Kinds.{integer_in}
 use Rattle.c_conversions.specs.Versions.{pointee, is_pointer}
 use Rattle.c_conversions.specs.Contents.{size_in}
 use Rattle.c_conversions.specs.Parts.{Part}

@@ -7,7 +7,7 @@ use Rattle.c_scopes.specs.Ruled.{Ruled, Demand, ruled}
 use Rattle.c_conversions.specs.Kinds.{is_integer}
 use Rattle.c_conversions.specs.Versions.{is_compound, is_void, is_scalar}
 use Rattle.c_conversions.specs.Parts.{Part, as_value}
-use Rattle.c_conversions.specs.Converting.{promoted_value, truth_value, discarded, converts, assigned}
+use Rattle.c_conversions.specs.Converting.{promoted_value, truth_value, discarded}
 use Rattle.c_expr_rules.specs.Targets.{type_of_part, is_complete}
 
 -- a structure or union is complete where its value is used (6.3.2.1p2)

@@ -1,5 +1,5 @@
 -- Each row of Annex K answers its call as every library does.
-use Rattle.std.proofs.Common.{◌≡◌, ◌<◌, Bool, List, Some, sym, subst, ◌∙◌, arith}
+use Rattle.std.proofs.Common.{◌≡◌, Bool, List, Some, sym, subst, ◌∙◌}
 use Rattle.std.proofs.lemmas.Option.{same_Some}
 use Rattle.object_store.specs.Storage.{Storage}
 use Rattle.lib_defs.specs.declared.row.Row.{Row}
@@ -9,6 +9,7 @@ use Rattle.lib_defs.specs.declared.step.Rest.{Rest}
 use Rattle.lib_defs.specs.declared.value.Arg.{Arg}
 use Rattle.lib_defs.specs.declared.value.ArgKind.TheVariants as kind
 use Rattle.lib_defs.specs.declared.value.Value.{Value}
+use Rattle.lib_defs.specs.Units.{byte_narrow, wide_narrow}
 use Rattle.lib_defs.specs.RowNumbers.{name_at}
 use Rattle.lib_defs.specs.Prototypes.{FitPrototype, IsGiven, prototype}
 use Rattle.lib_defs.specs.Reply.{Did, Done, Broken, Asks, Fails}
@@ -22,12 +23,6 @@ use Rattle.lib_defs.proofs.RowsFit.{Gives, rule_fits_call}
 use Rattle.lib_defs.proofs.Forms.{copy_gives, move_gives, fill_gives, text_copy_gives, part_copy_gives, append_gives}
 use Rattle.lib_defs.proofs.Forms.{part_append_gives, token_gives, error_text_gives, wide_char_gives, length_gives}
 use Rattle.lib_defs.proofs.Forms.{error_length_gives, second_size}
-
-narrow_some : 0 < 1
-narrow_some = omega arith
-
-wide_some : 0 < 4
-wide_some = omega arith
 
 of_did : (P : Value → Type 0) (s : Storage) (q r : Rule) → Some q ≡ Some r → Gives P (run_rule q s)
     → Gives P (run_rule r s)
@@ -84,10 +79,10 @@ gives_of n.WctombS args r e fit s = of_did (IsGiven (prototype n.WctombS).gives)
     (wide_char_gives s (ptr (values_of args) 0) (ptr (values_of args) 1) (count (values_of args) 2)
     (num (values_of args) 3))
 gives_of n.StrnlenS args r e fit s = of_did (IsGiven (prototype n.StrnlenS).gives) s _ r e
-    (length_gives s 1 narrow_some (ptr (values_of args) 0) (count (values_of args) 1)
+    (length_gives s 1 byte_narrow.0 (ptr (values_of args) 0) (count (values_of args) 1)
     (second_size kind.CharPointer args fit.kinds fit.values))
 gives_of n.WcsnlenS args r e fit s = of_did (IsGiven (prototype n.WcsnlenS).gives) s _ r e
-    (length_gives s 4 wide_some (ptr (values_of args) 0) (count (values_of args) 1)
+    (length_gives s 4 wide_narrow.0 (ptr (values_of args) 0) (count (values_of args) 1)
     (second_size kind.OtherPointer args fit.kinds fit.values))
 gives_of n.StrerrorlenS args r e fit s = of_did (IsGiven (prototype n.StrerrorlenS).gives) s _ r e
     (error_length_gives s (num (values_of args) 0))

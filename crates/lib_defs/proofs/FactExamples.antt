@@ -3,13 +3,13 @@ use Rattle.std.proofs.Common.{◌≡◌, ℕ, true, false, [], ◌∷◌, Some, 
 use Rattle.std.specs.Prelude.{pos, codes}
 use Rattle.lib_defs.specs.declared.row.Row.{Row}
 use Rattle.lib_defs.specs.declared.row_name.RowName.TheVariants as n
+use Rattle.lib_defs.specs.declared.shown.Shown.TheVariants.{Number, Place}
 use Rattle.lib_defs.specs.declared.value.Value.TheVariants.{Num, Ptr}
 use Rattle.lib_defs.specs.declared.violation.Violation.TheVariants.{NullPointer, SizeNotZero, TokenNotEnded}
 use Rattle.lib_defs.specs.RowNumbers.{name_at, row_named}
 use Rattle.lib_defs.specs.Reply.{null}
 use Rattle.lib_defs.specs.RowTable.{violation_at}
-use Rattle.lib_defs.specs.Shown.{Number, Place, line_values, line_decisions, line_action, failure_at, none_fails}
-use Rattle.lib_defs.specs.Shown.{is_first_failing}
+use Rattle.lib_defs.specs.Shown.{line_values, line_decisions, line_action, failure_at, none_fails, is_first_failing}
 use Rattle.lib_defs.proofs.ExampleStore.{at}
 
 abbrev row : ℕ → Row

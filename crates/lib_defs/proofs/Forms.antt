@@ -71,10 +71,10 @@ module _ (P : Value → Type 0) where
   gives_rule r s failure success = gives_by r s (refusal r.constraints 1 s) failure success
 
 -- small numbers are values of int and of size_t
-int_given : (n : ℕ) → n ≤ 2147483647 → IsGiven int (Num (pos n))
+pub int_given : (n : ℕ) → n ≤ 2147483647 → IsGiven int (Num (pos n))
 int_given n le = record { least = omega (arith, ints); greatest = omega (arith, ints) }
 
-size_given : (n : ℕ) → n ≤ 18446744073709551615 → IsGiven size_t (Num (pos n))
+pub size_given : (n : ℕ) → n ≤ 18446744073709551615 → IsGiven size_t (Num (pos n))
 size_given n le = record { least = omega (arith, ints); greatest = omega (arith, ints) }
 
 errno_given : (class : Violation) → IsGiven int (errno_value class)

@@ -1,10 +1,11 @@
 -- The rows by name: the facts at the values of a line, and the laws.
-use Rattle.std.proofs.Common.{◌≡◌, ◌<◌, List, [], map, Some, refl, subst, arith}
+use Rattle.std.proofs.Common.{◌≡◌, List, [], map, Some, refl, subst}
 use Rattle.std.proofs.lemmas.Option.{same_Some}
 use Rattle.lib_defs.specs.declared.row_name.RowName.{RowName}
 use Rattle.lib_defs.specs.declared.row_name.RowName.TheVariants as n
 use Rattle.lib_defs.specs.declared.value.Value.{Value}
 use Rattle.lib_defs.specs.declared.violation.Violation.{Violation}
+use Rattle.lib_defs.specs.Units.{byte_narrow, wide_narrow}
 use Rattle.lib_defs.specs.Constraints.{classes}
 use Rattle.lib_defs.specs.Rules.{Rule}
 use Rattle.lib_defs.specs.MemoryRows.{copy_row, move_row, fill_row}
@@ -23,12 +24,6 @@ use Rattle.lib_defs.proofs.SeenFacts.{seen_pointer, ptr_seen, count_seen, num_se
 use Rattle.lib_defs.proofs.SeenRows.{copy_facts, move_facts, fill_facts, text_copy_facts, part_copy_facts}
 use Rattle.lib_defs.proofs.SeenRows.{append_facts, part_append_facts, token_facts, error_text_facts, wide_char_facts}
 use Rattle.lib_defs.proofs.SeenRows.{length_facts, error_length_facts}
-
-narrow_some : 0 < 1
-narrow_some = omega arith
-
-wide_some : 0 < 4
-wide_some = omega arith
 
 -- What is known of a row: the row at the values of its line, with the same facts; its classes and failure values are
 -- those of its name; and it keeps the laws.
@@ -95,49 +90,49 @@ facts_of n.StrcpyS v r e = of_rule n.StrcpyS v r (text_copy_row 1 (ptr v 0) (cou
     (rw (ptr_seen v 0, count_seen v 1, ptr_seen v 2) refl)
     (text_copy_facts 1 (ptr v 0) (count v 1) (ptr v 2))
     refl (text_copy_row 1 (ptr [] 0) (count [] 1) (ptr [] 2)) refl (λ class. refl)
-    (text_copy_keeps 1 narrow_some (ptr v 0) (count v 1) (ptr v 2))
+    (text_copy_keeps 1 byte_narrow.0 (ptr v 0) (count v 1) (ptr v 2))
 facts_of n.WcscpyS v r e = of_rule n.WcscpyS v r (text_copy_row 4 (ptr v 0) (count v 1) (ptr v 2)) e
     (text_copy_row 4 (seen_pointer (ptr v 0)) (count v 1) (seen_pointer (ptr v 2)))
     (rw (ptr_seen v 0, count_seen v 1, ptr_seen v 2) refl)
     (text_copy_facts 4 (ptr v 0) (count v 1) (ptr v 2))
     refl (text_copy_row 4 (ptr [] 0) (count [] 1) (ptr [] 2)) refl (λ class. refl)
-    (text_copy_keeps 4 wide_some (ptr v 0) (count v 1) (ptr v 2))
+    (text_copy_keeps 4 wide_narrow.0 (ptr v 0) (count v 1) (ptr v 2))
 facts_of n.StrncpyS v r e = of_rule n.StrncpyS v r (part_copy_row 1 (ptr v 0) (count v 1) (ptr v 2) (count v 3)) e
     (part_copy_row 1 (seen_pointer (ptr v 0)) (count v 1) (seen_pointer (ptr v 2)) (count v 3))
     (rw (ptr_seen v 0, count_seen v 1, ptr_seen v 2, count_seen v 3) refl)
     (part_copy_facts 1 (ptr v 0) (count v 1) (ptr v 2) (count v 3))
     refl (part_copy_row 1 (ptr [] 0) (count [] 1) (ptr [] 2) (count [] 3)) refl (λ class. refl)
-    (part_copy_keeps 1 narrow_some (ptr v 0) (count v 1) (ptr v 2) (count v 3))
+    (part_copy_keeps 1 byte_narrow.0 (ptr v 0) (count v 1) (ptr v 2) (count v 3))
 facts_of n.WcsncpyS v r e = of_rule n.WcsncpyS v r (part_copy_row 4 (ptr v 0) (count v 1) (ptr v 2) (count v 3)) e
     (part_copy_row 4 (seen_pointer (ptr v 0)) (count v 1) (seen_pointer (ptr v 2)) (count v 3))
     (rw (ptr_seen v 0, count_seen v 1, ptr_seen v 2, count_seen v 3) refl)
     (part_copy_facts 4 (ptr v 0) (count v 1) (ptr v 2) (count v 3))
     refl (part_copy_row 4 (ptr [] 0) (count [] 1) (ptr [] 2) (count [] 3)) refl (λ class. refl)
-    (part_copy_keeps 4 wide_some (ptr v 0) (count v 1) (ptr v 2) (count v 3))
+    (part_copy_keeps 4 wide_narrow.0 (ptr v 0) (count v 1) (ptr v 2) (count v 3))
 facts_of n.StrcatS v r e = of_rule n.StrcatS v r (append_row 1 (ptr v 0) (count v 1) (ptr v 2)) e
     (append_row 1 (seen_pointer (ptr v 0)) (count v 1) (seen_pointer (ptr v 2)))
     (rw (ptr_seen v 0, count_seen v 1, ptr_seen v 2) refl)
     (append_facts 1 (ptr v 0) (count v 1) (ptr v 2))
     refl (append_row 1 (ptr [] 0) (count [] 1) (ptr [] 2)) refl (λ class. refl)
-    (append_keeps 1 narrow_some (ptr v 0) (count v 1) (ptr v 2))
+    (append_keeps 1 byte_narrow.0 (ptr v 0) (count v 1) (ptr v 2))
 facts_of n.WcscatS v r e = of_rule n.WcscatS v r (append_row 4 (ptr v 0) (count v 1) (ptr v 2)) e
     (append_row 4 (seen_pointer (ptr v 0)) (count v 1) (seen_pointer (ptr v 2)))
     (rw (ptr_seen v 0, count_seen v 1, ptr_seen v 2) refl)
     (append_facts 4 (ptr v 0) (count v 1) (ptr v 2))
     refl (append_row 4 (ptr [] 0) (count [] 1) (ptr [] 2)) refl (λ class. refl)
-    (append_keeps 4 wide_some (ptr v 0) (count v 1) (ptr v 2))
+    (append_keeps 4 wide_narrow.0 (ptr v 0) (count v 1) (ptr v 2))
 facts_of n.StrncatS v r e = of_rule n.StrncatS v r (part_append_row 1 (ptr v 0) (count v 1) (ptr v 2) (count v 3)) e
     (part_append_row 1 (seen_pointer (ptr v 0)) (count v 1) (seen_pointer (ptr v 2)) (count v 3))
     (rw (ptr_seen v 0, count_seen v 1, ptr_seen v 2, count_seen v 3) refl)
     (part_append_facts 1 (ptr v 0) (count v 1) (ptr v 2) (count v 3))
     refl (part_append_row 1 (ptr [] 0) (count [] 1) (ptr [] 2) (count [] 3)) refl (λ class. refl)
-    (part_append_keeps 1 narrow_some (ptr v 0) (count v 1) (ptr v 2) (count v 3))
+    (part_append_keeps 1 byte_narrow.0 (ptr v 0) (count v 1) (ptr v 2) (count v 3))
 facts_of n.WcsncatS v r e = of_rule n.WcsncatS v r (part_append_row 4 (ptr v 0) (count v 1) (ptr v 2) (count v 3)) e
     (part_append_row 4 (seen_pointer (ptr v 0)) (count v 1) (seen_pointer (ptr v 2)) (count v 3))
     (rw (ptr_seen v 0, count_seen v 1, ptr_seen v 2, count_seen v 3) refl)
     (part_append_facts 4 (ptr v 0) (count v 1) (ptr v 2) (count v 3))
     refl (part_append_row 4 (ptr [] 0) (count [] 1) (ptr [] 2) (count [] 3)) refl (λ class. refl)
-    (part_append_keeps 4 wide_some (ptr v 0) (count v 1) (ptr v 2) (count v 3))
+    (part_append_keeps 4 wide_narrow.0 (ptr v 0) (count v 1) (ptr v 2) (count v 3))
 facts_of n.StrtokS v r e = of_rule n.StrtokS v r (token_row 1 (ptr v 0) (ptr v 1) (ptr v 2) (ptr v 3)) e
     (token_row 1 (seen_pointer (ptr v 0)) (seen_pointer (ptr v 1)) (seen_pointer (ptr v 2)) (seen_pointer (ptr v 3)))
     (rw (ptr_seen v 0, ptr_seen v 1, ptr_seen v 2, ptr_seen v 3) refl)

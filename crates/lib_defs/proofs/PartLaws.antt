@@ -41,7 +41,8 @@ units_long w s p m (suc k) some e =
     bytes_long s p (w * suc k) (units_reached goes_on w s p some m (suc k) (w * suc k) (omega arith) e (omega arith))
 
 -- units and a null, where the whole is reached
-ended_reached : (w : ℕ) (s : Storage) (to from : Pointer) (k : ℕ) → IsSized s → length (bytes_at s from (w * k)) ≡ w * k
+pub ended_reached : (w : ℕ) (s : Storage) (to from : Pointer) (k : ℕ) → IsSized s
+    → length (bytes_at s from (w * k)) ≡ w * k
     → reach s to (size w (k + 1)) w TextWrite ≡ None → AreReached s (ended_units w s to from k)
 ended_reached w s to from k sized long write =
     let exact : size w (k + 1) ≡ w * (k + 1) = size_exact s to w (k + 1) w TextWrite sized write in

@@ -1,6 +1,6 @@
 -- Parts of a range that is reached to be stored to, and how long a range that is reached may be.
 use Rattle.std.proofs.Common.{◌≡◌, ℕ, ◌+◌, ◌*◌, ◌≤◌, nat_le, Bool, true, false, cond, List, length, slice_get}
-use Rattle.std.proofs.Common.{Option, Some, None, refl, subst, arith}
+use Rattle.std.proofs.Common.{Some, None, refl, subst, arith}
 use Rattle.std.specs.List.{All}
 use Rattle.std.proofs.lemmas.Option.{get_or_from_slice_get, slice_get_within}
 use Rattle.object_store.specs.declared.by.By.{By}
@@ -33,12 +33,18 @@ object_sized objects i o sized at =
     subst (λ (x : Object). length x.cells ≤ rsize_max) (get_or_from_slice_get objects i o o at)
     (sized i o (slice_get_within objects i o at))
 
-pub reach_sized : (s : Storage) (p : Pointer) (len align : ℕ) (by : By) → IsSized s → reach s p len align by ≡ None
-    → len ≤ rsize_max
-reach_sized s p len align by sized reached =
+pub reach_end : (s : Storage) (p : Pointer) (len align : ℕ) (by : By) → IsSized s → reach s p len align by ≡ None
+    → p.offset + len ≤ rsize_max
+reach_end s p len align by sized reached =
     let r : IsLiveRange s.objects p len = in_range s p len (record { align = align; by = by; reached = reached }) in
     let o : length r.object.cells ≤ rsize_max = object_sized s.objects (place_of p.object) r.object sized r.at in
     omega (arith, r.high, r.within, o)
+
+pub reach_sized : (s : Storage) (p : Pointer) (len align : ℕ) (by : By) → IsSized s → reach s p len align by ≡ None
+    → len ≤ rsize_max
+reach_sized s p len align by sized reached =
+    let end : p.offset + len ≤ rsize_max = reach_end s p len align by sized reached in
+    omega (arith, end)
 
 -- so a size that is reached was not cut
 pub size_exact : (s : Storage) (p : Pointer) (w n align : ℕ) (by : By) → IsSized s

@@ -29,6 +29,15 @@ Gives P (Broken k class action value) = P value
 Gives P (Asks function first second third rest) = Unit {0}
 Gives P (Fails stop) = Unit {0}
 
+-- a stop that any row may come to
+pub stop_fits : (row : Row) (args : List Arg) (w : World) (streams : Streams) (stop : Stop) → RuleStop w.store stop
+    → RowStopFits row args w streams stop
+stop_fits row args w streams (FailsReach case place len align by) h = h
+stop_fits row args w streams (FailsValue case value) h = absurd h
+stop_fits row args w streams (FailsArgument number) h = absurd h
+stop_fits row args w streams (IsUndefined code) h = h
+stop_fits row args w streams (Ends ended) h = absurd h
+
 module _ (row : Row) (args : List Arg) (name : RowName) (r : Rule) (named : name_at row ≡ Some name)
     (facts : Facts name (values_of args) r) where
   decided_is : line_decisions row (shown_at row args) ≡ decisions facts.seen.constraints
@@ -73,18 +82,11 @@ module _ (row : Row) (args : List Arg) (name : RowName) (r : Rule) (named : name
       form = form;
     }
 
-    stop_fits : (stop : Stop) → RuleStop w.store stop → RowStopFits row args w streams stop
-    stop_fits (FailsReach case place len align by) h = h
-    stop_fits (FailsValue case value) h = absurd h
-    stop_fits (FailsArgument number) h = absurd h
-    stop_fits (IsUndefined code) h = h
-    stop_fits (Ends ended) h = absurd h
-
     did_fits : (d : Did) → Gives (HasForm row args) d → RuleFits r w.store d → CallFits waits row args w streams d
     did_fits (Done change set value) form h = done_fits change set value form h
     did_fits (Broken k told action value) form h = broken_fits k told action value form h
     did_fits (Asks function first second third rest) form h = absurd h
-    did_fits (Fails stop) form h = stop_fits stop h
+    did_fits (Fails stop) form h = stop_fits row args w streams stop h
 
     -- what the row does, where its values have their form
     pub rule_fits_call : IsSized w.store → Gives (HasForm row args) (run_rule r w.store)

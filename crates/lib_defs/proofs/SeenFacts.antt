@@ -1,8 +1,8 @@
 -- The facts of rows are the same at the values that a line shows.
 use Rattle.std.proofs.Common.{◌≡◌, ℕ, zero, suc, ◌==◌, Bool, true, false, cond, List, [], ◌∷◌, map, slice_get, Option}
 use Rattle.std.proofs.Common.{Some, None, refl, ap, subst, ◌∙◌}
-use Rattle.std.specs.Prelude.{ℤ}
 use Rattle.object_store.specs.declared.pointer.Pointer.{Pointer}
+use Rattle.lib_defs.specs.declared.shown.Shown.TheVariants.{Place}
 use Rattle.lib_defs.specs.declared.value.Value.{Value}
 use Rattle.lib_defs.specs.declared.value.Value.TheVariants.{Num, Ptr, Nothing}
 use Rattle.lib_defs.specs.declared.violation.Violation.{Violation}
@@ -11,7 +11,7 @@ use Rattle.lib_defs.specs.Constraints.{decisions, classes}
 use Rattle.lib_defs.specs.Columns.{is_null}
 use Rattle.lib_defs.specs.Rules.{Rule}
 use Rattle.lib_defs.specs.RowTable.{pointer_of, size_of, number_of, ptr, count, num}
-use Rattle.lib_defs.specs.Shown.{Place, argument_shown, value_shown, write_of, none_fails, is_first_failing}
+use Rattle.lib_defs.specs.Shown.{argument_shown, value_shown, write_of, none_fails, is_first_failing}
 
 -- a value as far as a line shows it
 abbrev pub seen : Value → Value
@@ -42,9 +42,6 @@ pointer_seen None = refl
 pointer_seen (Some (Num n)) = refl
 pointer_seen (Some (Ptr p)) = ap (λ v. pointer_of (Some v)) (place_seen (is_null p) p)
 pointer_seen (Some Nothing) = refl
-
-number_size : (z : ℤ) → size_of (Some (seen (Num z))) ≡ size_of (Some (Num z))
-number_size z = refl
 
 size_seen : (o : Option Value) → size_of (seen_option o) ≡ size_of o
 size_seen None = refl

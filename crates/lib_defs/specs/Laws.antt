@@ -1,17 +1,17 @@
 -- The laws that every library keeps.
-use Rattle.std.specs.Prelude.{◌≡◌, ℕ, ◌<◌, ◌≤◌, ◌%◌, ◌==◌, nat_lt, Bool, true, false, not, ◌&&◌, List, [], ◌∷◌}
+use Rattle.std.specs.Prelude.{◌≡◌, ℕ, ◌<◌, ◌≤◌, ◌%◌, nat_lt, Bool, true, false, not, ◌&&◌, List, [], ◌∷◌}
 use Rattle.std.specs.Prelude.{length, Option, Some, None, if◌then◌else◌}
 use Rattle.std.specs.List.{All}
 use Rattle.std.specs.Option.{option_map_or}
 use Rattle.critical_table.specs.declared.case.Case.{Case}
-use Rattle.critical_table.specs.declared.case.Case.TheVariants.{L9, L11}
+use Rattle.critical_table.specs.declared.case.Case.TheVariants.{L9}
 use Rattle.critical_table.specs.declared.code.Code.{Code}
 use Rattle.critical_table.specs.declared.code.Code.TheVariants.{U05, U09, U11}
 use Rattle.critical_table.specs.declared.ended.Ended.{Ended}
 use Rattle.critical_table.specs.declared.ended.Ended.TheVariants as ended
 use Rattle.object_store.specs.declared.class.Class.TheVariants.{Allocated}
 use Rattle.object_store.specs.declared.pointer.Pointer.{Pointer}
-use Rattle.object_store.specs.Object.{Object, object_of}
+use Rattle.object_store.specs.Object.{Object}
 use Rattle.object_store.specs.Storage.{Storage, is_live}
 use Rattle.object_store.specs.Steps.{next_number}
 use Rattle.object_store.specs.Reach.{reach, IsReachedToStore}
@@ -19,6 +19,7 @@ use Rattle.lib_defs.specs.declared.handler.Handler.{Handler}
 use Rattle.lib_defs.specs.declared.row.Row.{Row}
 use Rattle.lib_defs.specs.declared.row_name.RowName.{RowName}
 use Rattle.lib_defs.specs.declared.row_name.RowName.TheVariants as n
+use Rattle.lib_defs.specs.declared.shown.Shown.{Shown}
 use Rattle.lib_defs.specs.declared.step.Rest.{Rest}
 use Rattle.lib_defs.specs.declared.value.Arg.{Arg}
 use Rattle.lib_defs.specs.declared.value.Value.{Value}
@@ -31,8 +32,9 @@ use Rattle.lib_defs.specs.Reply.{Patch, Fill, Change, no_change, Stop, FailsReac
 use Rattle.lib_defs.specs.Reply.{IsUndefined, Ends, Did, Done, Broken, Asks, Fails, with_made}
 use Rattle.lib_defs.specs.Handlers.{first_function}
 use Rattle.lib_defs.specs.Columns.{is_null}
+use Rattle.lib_defs.specs.Allocation.{release_case}
 use Rattle.lib_defs.specs.RowTable.{ptr, violation_at}
-use Rattle.lib_defs.specs.Shown.{Shown, line_values, line_decisions, line_action, failure_at, write_of, none_fails}
+use Rattle.lib_defs.specs.Shown.{line_values, line_decisions, line_action, failure_at, write_of, none_fails}
 use Rattle.lib_defs.specs.Shown.{is_first_failing}
 use Rattle.lib_defs.specs.World.{Streams, World, Broken as BrokenInput, Flows}
 use Rattle.lib_defs.specs.Library.{Library, values_of}
@@ -146,17 +148,6 @@ StopFits s streams (FailsValue case value) = ⊥
 StopFits s streams (FailsArgument number) = ⊥
 StopFits s streams (IsUndefined code) = is_row_code code ≡ true
 StopFits s streams (Ends ended) = EndFits streams ended
-
-abbrev pub is_dead : Storage → ℕ → Bool
-is_dead s number = option_map_or (λ (o : Object). not o.live) (object_of s.objects number) false
-
--- the case of a release of this pointer, if it is one: that of a dead allocated object, or of a pointer that is not
--- the place of a live one
-abbrev pub release_case : Storage → Pointer → Option Case
-release_case s p =
-    if is_null p then None else
-    if (p.object % 2 == 1) && is_dead s p.object then Some L11 else
-    if (p.object % 2 == 1) && (is_live s p.object && (p.offset == 0)) then None else Some L9
 
 -- a case of a value alone: of free and realloc that of a release; of set_constraint_handler_s that of a pointer that
 -- is neither null nor a function's

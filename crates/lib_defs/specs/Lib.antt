@@ -20,6 +20,14 @@ pub mod Shown
 pub mod Prototypes
 pub mod World
 pub mod Library
+pub mod PlainMemory
+pub mod PlainTexts
+pub mod Allocation
+pub mod Characters
+pub mod Conversions
+pub mod Printed
+pub mod StreamRows
+pub mod Profile
 pub mod Laws
 pub mod Answers
 pub mod RuleLaws

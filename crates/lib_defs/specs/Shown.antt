@@ -1,10 +1,12 @@
 -- What a journal shows of a call of a row of Annex K, and what follows of it.
-use Rattle.std.specs.Prelude.{ℕ, zero, suc, Bool, true, false, not, ◌&&◌, ℤ, List, [], ◌∷◌, map, Option, Some}
+use Rattle.std.specs.Prelude.{ℕ, zero, suc, Bool, true, false, not, ◌&&◌, List, [], ◌∷◌, map, Option, Some}
 use Rattle.std.specs.Prelude.{None, if◌then◌else◌}
 use Rattle.std.specs.Option.{option_and_then, option_map_or}
 use Rattle.object_store.specs.declared.writes.Write.{Write}
 use Rattle.lib_defs.specs.declared.row.Row.{Row}
 use Rattle.lib_defs.specs.declared.row_name.RowName.{RowName}
+use Rattle.lib_defs.specs.declared.shown.Shown.{Shown}
+use Rattle.lib_defs.specs.declared.shown.Shown.TheVariants.{Number, Function, Place, NoValue}
 use Rattle.lib_defs.specs.declared.value.Value.{Value}
 use Rattle.lib_defs.specs.declared.value.Value.TheVariants as value
 use Rattle.lib_defs.specs.declared.violation.Violation.{Violation}
@@ -14,13 +16,6 @@ use Rattle.lib_defs.specs.Constraints.{decisions}
 use Rattle.lib_defs.specs.Columns.{is_null}
 use Rattle.lib_defs.specs.Rules.{Rule}
 use Rattle.lib_defs.specs.RowTable.{rule_of, row_classes, violation_at}
-
--- a value in a line: a number, the name of a function, an object and an offset, or none
-pub data Shown : Type 0 where
-  Number : (n : ℤ) → Shown
-  Function : (name : List ℕ) → Shown
-  Place : (object offset : ℕ) → Shown
-  NoValue : Shown
 
 -- an argument on the line of a call: each pointer is an object and an offset, null is 0:0
 abbrev pub argument_shown : Value → Shown

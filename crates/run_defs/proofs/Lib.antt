@@ -1,0 +1,4 @@
+-- Lemmas, by topic.
+pub mod Integers
+pub mod ExampleRuns
+pub mod CallExamples
