@@ -59,8 +59,8 @@ pub record Around : Type 0 where
   pub may_vary : Bool
 
 -- The type that the derivations of a declarator make of the type of its specifiers. They are listed from the name
--- outwards, as a declarator is read: `int *f[3]` is an array of 3 pointers. The type is made from the other end (6.7.6p4
--- and on).
+-- outwards, as a declarator is read: `int *f[3]` is an array of 3 pointers. The type is made from the other end
+-- (6.7.6p4 and on).
 unfoldable pub outer_type : Option (Pos × List ℕ) → Pos → CType → List Derived → Env → Answer CType
 outer_type name at base [] env = Gives base env
 outer_type name at base (first ∷ outer) env =
@@ -77,6 +77,10 @@ derived_type name around base (first ∷ outer) env =
     and_then (outer_type name around.at base outer env) (λ type env.
     settle (derivation_place name around.at first) env
         (derivation_rule (around.may_vary && is_printf name) env.structures type first.derivation))
+
+-- the type of a declarator whose derivations were walked
+unfoldable pub of_derivations : Option (Pos × List ℕ) → Around → CType → Answer (List Derived) → Answer CType
+of_derivations name around base answer = and_then answer (λ all env. derived_type name around base all env)
 
 -- ---- parameters (6.7.6.3)
 

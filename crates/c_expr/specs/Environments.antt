@@ -7,15 +7,15 @@ use Rattle.c_scopes.specs.Scopes.{Names, no_names, bound}
 
 -- ---- scopes (6.2.1)
 
-abbrev pub entered : Env → Env
-entered env = record env { scopes = no_names ∷ env.scopes }
+abbrev pub scope_entered : Env → Env
+scope_entered env = record env { scopes = no_names ∷ env.scopes }
 
 abbrev pub outer_of : {A : Type 0} → List A → List A
 outer_of [] = []
 outer_of (inner ∷ outer) = outer
 
-abbrev pub left : Env → Env
-left env = record env { scopes = outer_of env.scopes }
+abbrev pub scope_left : Env → Env
+scope_left env = record env { scopes = outer_of env.scopes }
 
 abbrev pub innermost_of : List (Names Named) → Names Named
 innermost_of [] = no_names

@@ -6,4 +6,5 @@ pub mod Declaring
 pub mod Tagging
 pub mod Outlines
 pub mod Operands
+pub mod Uses
 pub mod Typing

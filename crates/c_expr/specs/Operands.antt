@@ -4,7 +4,7 @@ use Rattle.critical_table.specs.declared.pos.Pos.{Pos}
 use Rattle.c_types.specs.CType.{CType, CTypes, Nil, Cons, void}
 use Rattle.c_types.specs.Functions.{parameters_of, variadic_of}
 use Rattle.c_types.specs.Structures.{Structure}
-use Rattle.c_core.specs.declared.operator.Comparison as c
+use Rattle.c_core.specs.declared.operator.Comparison.{Comparison as Relates}
 use Rattle.c_core.specs.declared.operator.Comparison.TheVariants as c
 use Rattle.c_core.specs.declared.operator.Operator.{Operator}
 use Rattle.c_core.specs.declared.operator.Operator.TheVariants as o
@@ -41,7 +41,7 @@ operator_of a.BitAnd = o.BitAnd
 operator_of a.BitXor = o.BitXor
 operator_of a.BitOr = o.BitOr
 
-abbrev pub comparison_of : Comparison → c.Comparison
+abbrev pub comparison_of : Comparison → Relates
 comparison_of r.Less = c.Less
 comparison_of r.Greater = c.Greater
 comparison_of r.LessEqual = c.LessEqual

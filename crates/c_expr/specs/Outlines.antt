@@ -2,17 +2,19 @@
 use Rattle.std.specs.Prelude.{ℕ, Bool, true, false, List, Option, Some, None}
 use Rattle.critical_table.specs.declared.pos.Pos.{Pos}
 use Rattle.c_types.specs.CType.{CType, void}
+use Rattle.c_types.specs.Qualified.{with_quals}
 use Rattle.c_syntax.specs.declared.specifier.BasicWord.{BasicWord}
 use Rattle.c_syntax.specs.Tree.{Specifiers}
 use Rattle.c_scopes.specs.Env.{Env}
 use Rattle.c_scopes.specs.Named.{Named, TypedefOf}
 use Rattle.c_scopes.specs.Ruled.{Ruled, Fits, Breaks}
 use Rattle.c_scopes.specs.Scopes.{found}
+use Rattle.c_type_rules.specs.Qualified.{quals_of_words}
 use Rattle.c_type_rules.specs.Words.{basic_rule}
 use Rattle.c_type_rules.specs.declared.context.Context.{Context}
 use Rattle.c_type_rules.specs.declared.context.Setting.{Setting}
 use Rattle.c_expr.specs.Answers.{Answer, Gives, and_then, settle}
-use Rattle.c_expr.specs.Shapes.{basic_words, holds_static, typedef_in}
+use Rattle.c_expr.specs.Shapes.{basic_words, holds_static, qualifier_words, typedef_in}
 
 -- what is seen of a whole list before its parts are walked
 pub record Outline : Type 0 where
@@ -61,3 +63,8 @@ typedef_rule (Some type) = Fits type
 
 abbrev pub bare_context : Setting → Context
 bare_context setting = record { setting = setting; functions = false; alone = false }
+
+-- the type of specifiers, of which each was walked: with the qualifiers among them (6.7.3)
+unfoldable pub of_specifiers : Specifiers → Answer Before → Answer CType
+of_specifiers all answer =
+    and_then answer (λ last env. Gives (with_quals (quals_of_words (qualifier_words all)) last.type) env)

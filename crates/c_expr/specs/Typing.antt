@@ -2,53 +2,43 @@
 -- through them. The walk knows no constraint: which type a node has, and what it breaks, is for its rule to say.
 --
 -- A rule that needs nothing of a node's parts comes before them, any other behind them.
-use Rattle.std.specs.Prelude.{ℕ, ◌+◌, ℤ, Bool, true, false, cond, List, [], ◌∷◌, ◌++◌, Option, Some, None}
+use Rattle.std.specs.Prelude.{ℕ, ◌+◌, ℤ, Bool, true, false, List, [], ◌∷◌, ◌++◌, Option, Some, None}
 use Rattle.critical_table.specs.declared.pos.Pos.{Pos}
 use Rattle.c_types.specs.CType.{CType, CTypes, Nil}
-use Rattle.c_types.specs.Qualified.{with_quals}
 use Rattle.c_core.specs.Constant.{constant_of}
 use Rattle.c_core.specs.Tree.{Core, Cores, NoCore, MoreCores}
 use Rattle.c_syntax.specs.declared.operator.Access.TheVariants as access
-use Rattle.c_syntax.specs.declared.operator.Infix.{Infix}
-use Rattle.c_syntax.specs.declared.operator.Infix.TheVariants as infix
-use Rattle.c_syntax.specs.declared.operator.Prefix.{Prefix}
-use Rattle.c_syntax.specs.declared.operator.Prefix.TheVariants as prefix
 use Rattle.c_syntax.specs.Tree.{Expr, Exprs, Maybe, TypeName, Specifier, Specifiers, MemberDeclaration, Members}
 use Rattle.c_syntax.specs.Tree.{Declarators, Enumerators, Declarator, Parameter, Parameters}
 use Rattle.c_syntax.specs.Tree as tree
 use Rattle.c_scopes.specs.Env.{Env}
 use Rattle.c_scopes.specs.Scopes.{found, found_here}
-use Rattle.c_conversions.specs.Parts.{Part, value}
-use Rattle.c_conversions.specs.Versions.{is_void}
+use Rattle.c_conversions.specs.Parts.{Part}
 use Rattle.c_type_rules.specs.Arrays.{length_rule}
 use Rattle.c_type_rules.specs.Enumerators.{given_value_rule, enumerator_rule, enumerator, first_value, next_value}
 use Rattle.c_type_rules.specs.Members.{member_rule, no_member_rule}
-use Rattle.c_type_rules.specs.Qualified.{quals_of_words, restrict_rule}
+use Rattle.c_type_rules.specs.Qualified.{restrict_rule}
 use Rattle.c_type_rules.specs.Settings.{storage_rule, inline_rule}
 use Rattle.c_type_rules.specs.declared.context.Context.{Context}
 use Rattle.c_type_rules.specs.declared.context.Setting.TheVariants as setting
-use Rattle.c_expr_rules.specs.Assignment.{assigned_rule, assign_rule, compound_rule, prefix_rule, postfix_rule}
-use Rattle.c_expr_rules.specs.Binary.{binary_rule, and_rule, or_rule}
+use Rattle.c_expr_rules.specs.Assignment.{postfix_rule}
 use Rattle.c_expr_rules.specs.Calls.{call_rule}
-use Rattle.c_expr_rules.specs.Casts.{cast_rule}
-use Rattle.c_expr_rules.specs.Comparisons.{comparison_rule}
-use Rattle.c_expr_rules.specs.Conditional.{conditional_rule, comma_part}
+use Rattle.c_expr_rules.specs.Conditional.{conditional_rule}
 use Rattle.c_expr_rules.specs.Members.{dot_rule, arrow_rule}
-use Rattle.c_expr_rules.specs.Pointers.{address_rule, deref_rule, index_rule}
+use Rattle.c_expr_rules.specs.Pointers.{index_rule}
 use Rattle.c_expr_rules.specs.Primary.{literal_rule, name_rule}
-use Rattle.c_expr_rules.specs.Unary.{size_of_rule}
-use Rattle.c_expr_rules.specs.Uses.{used_rule, value_rule, test_rule, discard_rule}
 use Rattle.c_expr.specs.Answers.{Answer, Gives, and_then, settle}
-use Rattle.c_expr.specs.Declaring.{ToPointer, ToFunction, Derived, Around, derived_type, is_alone, parameter_of, and_type}
+use Rattle.c_expr.specs.Declaring.{ToPointer, Derived, Around, of_derivations, is_alone, parameter_of, and_type}
 use Rattle.c_expr.specs.Declaring.{plain_derived, array_derived, function_derived, NamedType, names_among, name_or_none}
-use Rattle.c_expr.specs.Environments.{entered, left, with_name}
-use Rattle.c_expr.specs.Operands.{operator_of, comparison_of, constant_rule, units_among, callee_parameters}
-use Rattle.c_expr.specs.Operands.{callee_varies, argument_rule, behind_first, argument_value_rule, unary_rule}
+use Rattle.c_expr.specs.Environments.{scope_entered, scope_left, with_name}
+use Rattle.c_expr.specs.Operands.{constant_rule, units_among, callee_parameters, callee_varies, behind_first}
 use Rattle.c_expr.specs.Operands.{measure_rule, is_decrement}
-use Rattle.c_expr.specs.Outlines.{Outline, Before, nothing, outline, of_type, basic_on, typedef_rule, bare_context}
-use Rattle.c_expr.specs.Shapes.{place_of, name_in, own_place, first_place, names_something, qualifier_words, start}
+use Rattle.c_expr.specs.Outlines.{Outline, Before, nothing, outline, of_type, of_specifiers, basic_on, typedef_rule}
+use Rattle.c_expr.specs.Outlines.{bare_context}
+use Rattle.c_expr.specs.Shapes.{place_of, name_in, own_place, first_place, names_something, start}
 use Rattle.c_expr.specs.Tagging.{is_union, tagged_compound, tagged_enumeration, compound_begun, compound_completed}
 use Rattle.c_expr.specs.Tagging.{enumeration_begun, tag_completed}
+use Rattle.c_expr.specs.Uses.{as_used, as_value, as_test, as_argument, cast_to, prefixed, combined}
 
 unfoldable mutual
   -- ---- 6.5: what an expression is, before it becomes a value (6.3.2.1); `used` tells that its value is used
@@ -59,121 +49,52 @@ unfoldable mutual
   typed used (tree.Text at text) env = settle at env (literal_rule at text.wide (units_among text.pieces))
   typed used (tree.Paren inner) env = typed used inner env
   typed used (tree.Index at array index) env =
-      and_then (valued array env) (λ a env.
-      and_then (valued index env) (λ i env. settle at env (index_rule env.structures at a i)))
+      and_then (as_value (place_of array) (typed true array env)) (λ a env.
+      and_then (as_value (place_of index) (typed true index env)) (λ i env.
+      settle at env (index_rule env.structures at a i)))
   typed used (tree.Call at function arguments) env =
-      and_then (converted true function env) (λ f env.
+      and_then (as_used (place_of function) (typed true function env)) (λ f env.
       and_then (passed arguments (callee_parameters f) (callee_varies f) env) (λ all env.
       settle at env (call_rule env.structures at used f all)))
   typed used (tree.Member at access.Dot whole x) env =
       and_then (typed true whole env) (λ w env. settle at env (dot_rule env.structures at x w))
   typed used (tree.Member at access.Arrow whole x) env =
-      and_then (converted true whole env) (λ w env. settle at env (arrow_rule env.structures at x w))
+      and_then (as_used (place_of whole) (typed true whole env)) (λ w env.
+      settle at env (arrow_rule env.structures at x w))
   typed used (tree.PostfixOp at operator operand) env =
       and_then (typed true operand env) (λ o env.
       settle at env (postfix_rule env.structures at (is_decrement operator) o))
-  typed used (tree.PrefixOp at operator operand) env = prefixed at operator operand env
+  typed used (tree.PrefixOp at operator operand) env =
+      prefixed at operator (place_of operand) (typed true operand env)
   typed used (tree.MeasureOp at operator type) env =
       and_then (named at type env) (λ t env. settle at env (measure_rule env.structures at operator t))
-  typed used (tree.Cast at type operand) env = and_then (named at type env) (λ t env. cast_to at t operand env)
-  typed used (tree.InfixOp at operator left right) env = combined used at operator left right env
+  typed used (tree.Cast at type operand) env = and_then (named at type env) (λ t env.
+      cast_to at t (place_of operand) (λ u. typed u operand env))
+  typed used (tree.InfixOp at operator left right) env =
+      combined used at operator (record { at = place_of left; answer = λ u env. typed u left env })
+          (record { at = place_of right; answer = λ u env. typed u right env }) env
   typed used (tree.Cond at test then else) env =
-      and_then (tested test env) (λ c env.
-      and_then (converted used then env) (λ a env.
-      and_then (converted used else env) (λ b env. settle at env (conditional_rule at c a b))))
+      and_then (as_test (place_of test) (typed true test env)) (λ c env.
+      and_then (as_used (place_of then) (typed used then env)) (λ a env.
+      and_then (as_used (place_of else) (typed used else env)) (λ b env. settle at env (conditional_rule at c a b))))
 
-  -- as a value, which may be void
-  pub converted : (used : Bool) → Expr → Env → Answer Part
-  converted used e env =
-      and_then (typed used e env) (λ p env. settle (place_of e) env (used_rule env.structures p))
-
-  -- as a value that is needed
-  pub valued : Expr → Env → Answer Part
-  valued e env = and_then (typed true e env) (λ p env. settle (place_of e) env (value_rule env.structures p))
-
-  -- as a controlling expression, or the first operand of a conditional
-  pub tested : Expr → Env → Answer Core
-  tested e env = and_then (typed true e env) (λ p env. settle (place_of e) env (test_rule env.structures p))
-
-  -- as an expression whose value is not used
-  pub unused : Expr → Env → Answer Core
-  unused e env = and_then (typed false e env) (λ p env. settle (place_of e) env (discard_rule env.structures p))
-
-  -- as the value that is assigned to what another expression designates
-  pub assigned_to : Part → Expr → Env → Answer Core
-  assigned_to target e env =
-      and_then (converted true e env) (λ v env. settle (place_of e) env (assigned_rule env.structures target v))
-
-  -- 6.5.4
-  pub cast_to : Pos → CType → Expr → Env → Answer Part
-  cast_to at type operand env = cond (is_void type)
-      (and_then (unused operand env) (λ core env. Gives (value core) env))
-      (and_then (valued operand env) (λ v env. settle at env (cast_rule at type v)))
-
+  -- arguments, where these parameters are left
   pub passed : Exprs → CTypes → Bool → Env → Answer Cores
   passed tree.NoExpr parameters variadic env = Gives NoCore env
   passed (tree.MoreExprs first rest) parameters variadic env =
-      and_then (argument parameters variadic first env) (λ a env.
+      and_then (as_argument parameters variadic (place_of first) (typed true first env)) (λ a env.
       and_then (passed rest (behind_first parameters) variadic env) (λ more env. Gives (MoreCores a more) env))
-
-  pub argument : CTypes → Bool → Expr → Env → Answer Core
-  argument parameters variadic e env =
-      and_then (typed true e env) (λ p env.
-      and_then (settle (place_of e) env (argument_value_rule env.structures parameters p)) (λ v env.
-      settle (place_of e) env (argument_rule env.structures parameters variadic v)))
-
-  pub prefixed : Pos → Prefix → Expr → Env → Answer Part
-  prefixed at prefix.PreInc operand env =
-      and_then (typed true operand env) (λ o env. settle at env (prefix_rule env.structures at false o))
-  prefixed at prefix.PreDec operand env =
-      and_then (typed true operand env) (λ o env. settle at env (prefix_rule env.structures at true o))
-  prefixed at prefix.AddressOf operand env =
-      and_then (typed true operand env) (λ o env. settle at env (address_rule at o))
-  prefixed at prefix.SizeExpr operand env =
-      and_then (typed true operand env) (λ o env. settle at env (size_of_rule env.structures at o))
-  prefixed at prefix.Deref operand env =
-      and_then (valued operand env) (λ o env. settle at env (deref_rule env.structures at o))
-  prefixed at operator operand env =
-      and_then (valued operand env) (λ o env. settle at env (unary_rule at operator o))
-
-  pub combined : (used : Bool) → Pos → Infix → Expr → Expr → Env → Answer Part
-  combined used at (infix.Arithmetic operator) left right env =
-      and_then (valued left env) (λ l env.
-      and_then (valued right env) (λ r env.
-      settle at env (binary_rule env.structures at (operator_of operator) l r)))
-  combined used at (infix.Comparison comparison) left right env =
-      and_then (valued left env) (λ l env.
-      and_then (valued right env) (λ r env. settle at env (comparison_rule at (comparison_of comparison) l r)))
-  combined used at infix.AndAlso left right env =
-      and_then (valued left env) (λ l env.
-      and_then (valued right env) (λ r env. settle at env (and_rule at l r)))
-  combined used at infix.OrElse left right env =
-      and_then (valued left env) (λ l env.
-      and_then (valued right env) (λ r env. settle at env (or_rule at l r)))
-  combined used at infix.Assign target from env =
-      and_then (typed true target env) (λ t env.
-      and_then (assigned_to t from env) (λ core env. settle at env (assign_rule env.structures at t core)))
-  combined used at (infix.AssignOp operator) target from env =
-      and_then (typed true target env) (λ t env.
-      and_then (valued from env) (λ v env.
-      settle at env (compound_rule env.structures at (operator_of operator) t v)))
-  combined used at infix.Comma left right env =
-      and_then (unused left env) (λ l env.
-      and_then (converted used right env) (λ r env. Gives (comma_part at l r) env))
 
   -- ---- 6.7.7: the rules on the type that a type name names have the place of the operator around it
 
   pub named : Pos → TypeName → Env → Answer CType
   named around (tree.NamedType specifiers declarator) env =
-      and_then (specified (bare_context setting.TypeName) specifiers env) (λ base env.
-      declared (record { at = around; may_vary = false }) declarator base env)
+      and_then (of_specifiers specifiers
+          (each_specified (bare_context setting.TypeName) (outline specifiers env) specifiers nothing env)) (λ base env.
+      of_derivations (name_in declarator) (record { at = around; may_vary = false }) base
+          (derived (own_place declarator around) declarator env))
 
-  -- ---- 6.7.2, 6.7.3: the type of specifiers
-
-  pub specified : Context → Specifiers → Env → Answer CType
-  specified context all env =
-      and_then (each_specified context (outline all env) all nothing env) (λ last env.
-      Gives (with_quals (quals_of_words (qualifier_words all)) last.type) env)
+  -- ---- 6.7.2, 6.7.3: specifiers, in the order of their tokens
 
   pub each_specified : Context → Outline → Specifiers → Before → Env → Answer Before
   each_specified context whole tree.NoSpecifier before env = Gives before env
@@ -219,13 +140,15 @@ unfoldable mutual
       and_then (settle (first_place specifiers) env (no_member_rule (names_something specifiers))) (λ none env.
       Gives earlier env)
   member_typed (tree.Declares specifiers (tree.MoreDeclarators first rest)) earlier env =
-      and_then (specified (bare_context setting.Member) specifiers env) (λ base env.
+      and_then (of_specifiers specifiers
+          (each_specified (bare_context setting.Member) (outline specifiers env) specifiers nothing env)) (λ base env.
       each_member (tree.MoreDeclarators first rest) base earlier env)
 
   pub each_member : Declarators → CType → List NamedType → Env → Answer (List NamedType)
   each_member tree.NoDeclarator base earlier env = Gives earlier env
   each_member (tree.MoreDeclarators first rest) base earlier env =
-      and_then (declared (record { at = start; may_vary = false }) first base env) (λ type env.
+      and_then (of_derivations (name_in first) (record { at = start; may_vary = false }) base
+          (derived (own_place first start) first env)) (λ type env.
       and_then (settle (own_place first start) env
           (member_rule env.structures (names_among earlier) (name_or_none (name_in first)) type)) (λ stands env.
       each_member rest base (earlier ++ record { name = name_or_none (name_in first); type = type } ∷ []) env))
@@ -242,14 +165,10 @@ unfoldable mutual
   pub enumerator_value : Maybe → ℤ → Env → Answer (Option ℤ)
   enumerator_value tree.Without next env = Gives (Some next) env
   enumerator_value (tree.With given) next env =
-      and_then (valued given env) (λ v env. settle (place_of given) env (given_value_rule (constant_of v.core)))
+      and_then (as_value (place_of given) (typed true given env)) (λ v env.
+      settle (place_of given) env (given_value_rule (constant_of v.core)))
 
-  -- ---- 6.7.6: what a declarator makes of a type
-
-  pub declared : Around → Declarator → CType → Env → Answer CType
-  declared around declarator base env =
-      and_then (derived (own_place declarator around.at) declarator env) (λ all env.
-      derived_type (name_in declarator) around base all env)
+  -- ---- 6.7.6
 
   -- the parts of a declarator in the order of their tokens; its derivations from the name outwards
   pub derived : Pos → Declarator → Env → Answer (List Derived)
@@ -263,13 +182,13 @@ unfoldable mutual
       and_then (array_length length env) (λ n env. Gives (all ++ array_derived length n ∷ []) env))
   derived at (tree.FunctionOf inner parameters variadic) env =
       and_then (derived at inner env) (λ all env.
-      and_then (parameters_typed at (is_alone parameters variadic) parameters 0 (entered env)) (λ types env.
-      Gives (all ++ function_derived types variadic env ∷ []) (left env)))
+      and_then (parameters_typed at (is_alone parameters variadic) parameters 0 (scope_entered env)) (λ types env.
+      Gives (all ++ function_derived types variadic env ∷ []) (scope_left env)))
 
   pub array_length : Maybe → Env → Answer (Option ℕ)
   array_length tree.Without env = Gives None env
   array_length (tree.With length) env =
-      and_then (converted true length env) (λ v env.
+      and_then (as_used (place_of length) (typed true length env)) (λ v env.
       and_then (settle (place_of length) env (length_rule (constant_of v.core))) (λ n env. Gives (Some n) env))
 
   -- ---- 6.7.6.3: the types of parameters, adjusted; the first has this number
@@ -283,6 +202,25 @@ unfoldable mutual
 
   pub parameter_typed : Pos → Bool → Parameter → ℕ → Env → Answer (Option CType)
   parameter_typed around alone (tree.Param specifiers declarator) number env =
-      and_then (specified (bare_context setting.Parameter) specifiers env) (λ base env.
-      and_then (declared (record { at = around; may_vary = false }) declarator base env) (λ type env.
+      and_then (of_specifiers specifiers
+          (each_specified (bare_context setting.Parameter) (outline specifiers env) specifiers nothing env))
+          (λ base env.
+      and_then (of_derivations (name_in declarator) (record { at = around; may_vary = false }) base
+          (derived (own_place declarator around) declarator env)) (λ type env.
       parameter_of alone specifiers declarator number type env))
+
+-- ---- what other crates ask
+
+-- an expression as a value that is needed
+abbrev pub valued : Expr → Env → Answer Part
+valued e env = as_value (place_of e) (typed true e env)
+
+-- the type of specifiers
+abbrev pub specified : Context → Specifiers → Env → Answer CType
+specified context all env =
+    of_specifiers all (each_specified context (outline all env) all nothing env)
+
+-- what a declarator makes of a type
+abbrev pub declared : Around → Declarator → CType → Env → Answer CType
+declared around declarator base env =
+    of_derivations (name_in declarator) around base (derived (own_place declarator around.at) declarator env)
