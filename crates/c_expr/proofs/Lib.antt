@@ -1,1 +1,4 @@
+pub mod Becoming
 pub mod Examples
+pub mod Looking
+pub mod Steps

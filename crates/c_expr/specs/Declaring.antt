@@ -76,7 +76,7 @@ derived_type name around base [] env = Gives base env
 derived_type name around base (first ∷ outer) env =
     and_then (outer_type name around.at base outer env) (λ type env.
     settle (derivation_place name around.at first) env
-        (derivation_rule (around.may_vary && is_printf name) env.structures type first.derivation))
+    (derivation_rule (around.may_vary && is_printf name) env.structures type first.derivation))
 
 -- the type of a declarator whose derivations were walked
 unfoldable pub of_derivations : Option (Pos × List ℕ) → Around → CType → Answer (List Derived) → Answer CType
@@ -110,7 +110,7 @@ abbrev pub with_parameter : Option (Pos × List ℕ) → Named → Env → Answe
 with_parameter None object env = Gives tt env
 with_parameter (Some name) object env =
     and_then (settle name.0 env (fresh_rule (found_here env.scopes false name.1)))
-        (λ fresh env. Gives tt (with_name name.1 object env))
+    (λ fresh env. Gives tt (with_name name.1 object env))
 
 -- an unnamed parameter of type `void` that stands alone, without any other word (6.7.6.3p10)
 abbrev pub is_plain_void : CType → Bool
@@ -126,7 +126,7 @@ parameter_of alone specifiers declarator number type env = cond (is_none alone s
     (Gives None env)
     (and_then (settle (first_place specifiers) env (parameter_rule type)) (λ adjusted env.
     and_then (with_parameter (name_in declarator) (parameter_object adjusted (holds_register specifiers) number) env)
-        (λ done env. Gives (Some adjusted) env)))
+    (λ done env. Gives (Some adjusted) env)))
 
 abbrev pub and_type : Option CType → CTypes → CTypes
 and_type None types = types

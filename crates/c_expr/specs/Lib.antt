@@ -8,3 +8,4 @@ pub mod Outlines
 pub mod Operands
 pub mod Uses
 pub mod Typing
+pub mod Clauses

@@ -54,7 +54,7 @@ abbrev pub basic_on : Pos → Outline → Bool → Before → Env → Answer Bef
 basic_on at whole true before env = Gives before env
 basic_on at whole false before env =
     and_then (settle at env (basic_rule whole.words))
-        (λ type env. Gives (record { storage = before.storage; basic = true; type = type }) env)
+    (λ type env. Gives (record { storage = before.storage; basic = true; type = type }) env)
 
 -- A typedef name is in scope wherever a parser takes it for one.
 abbrev pub typedef_rule : Option CType → Ruled CType

@@ -36,13 +36,13 @@ abbrev pub known_or_declared : Bool → Tag → Option CType → Env → Answer 
 known_or_declared union tag (Some type) env = Gives type env
 known_or_declared union tag None env =
     Gives (next_compound env.structures)
-        (with_tag tag (next_compound env.structures) state.Declared (with_compound union env))
+    (with_tag tag (next_compound env.structures) state.Declared (with_compound union env))
 
 -- `struct tag`: a tag that is in scope, or a new one (6.7.2.3p8)
 abbrev pub tagged_compound : Bool → Tag → Bool → Env → Answer CType
 tagged_compound union tag alone env =
     and_then (settle tag.pos env (compound_tag_rule env.structures union (tag_seen alone tag.name env)))
-        (λ known env. known_or_declared union tag known env)
+    (λ known env. known_or_declared union tag known env)
 
 -- `enum tag`: a tag that is in scope
 abbrev pub tagged_enumeration : Tag → Env → Answer CType
@@ -54,20 +54,20 @@ abbrev pub completed_or_begun : Bool → Tag → Option CType → Env → Answer
 completed_or_begun union tag (Some type) env = Gives type (with_tag tag type state.Begun env)
 completed_or_begun union tag None env =
     Gives (next_compound env.structures)
-        (with_tag tag (next_compound env.structures) state.Begun (with_compound union env))
+    (with_tag tag (next_compound env.structures) state.Begun (with_compound union env))
 
 abbrev pub compound_begun : Bool → Option Tag → Env → Answer CType
 compound_begun union None env = Gives (next_compound env.structures) (with_compound union env)
 compound_begun union (Some tag) env =
     and_then (settle tag.pos env (compound_body_rule env.structures union (found_here env.scopes true tag.name)))
-        (λ known env. completed_or_begun union tag known env)
+    (λ known env. completed_or_begun union tag known env)
 
 abbrev pub enumeration_begun : Option Tag → Env → Answer CType
 enumeration_begun None env = Gives (next_enumerated env.enumerations) (with_enumeration env)
 enumeration_begun (Some tag) env =
     and_then (settle tag.pos env (enumerated_body_rule (found_here env.scopes true tag.name)))
-        (λ new env. Gives (next_enumerated env.enumerations)
-            (with_tag tag (next_enumerated env.enumerations) state.Begun (with_enumeration env)))
+    (λ new env. Gives (next_enumerated env.enumerations)
+    (with_tag tag (next_enumerated env.enumerations) state.Begun (with_enumeration env)))
 
 abbrev pub tag_completed : Option Tag → CType → Env → Env
 tag_completed None type env = env
@@ -82,5 +82,5 @@ compound_place at (Some tag) = tag.pos
 abbrev pub compound_completed : Bool → Option Tag → Pos → CType → List NamedType → Env → Answer CType
 compound_completed union tag at type members env =
     and_then (settle (compound_place at tag) env
-        (body_rule union (names_among members) (types_among members) env.structures))
-        (λ structure env. Gives type (tag_completed tag type (with_structure (number_in type) structure env)))
+    (body_rule union (names_among members) (types_among members) env.structures))
+    (λ structure env. Gives type (tag_completed tag type (with_structure (number_in type) structure env)))

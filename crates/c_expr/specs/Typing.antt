@@ -72,7 +72,7 @@ unfoldable mutual
       cast_to at t (place_of operand) (λ u. typed u operand env))
   typed used (tree.InfixOp at operator left right) env =
       combined used at operator (record { at = place_of left; answer = λ u env. typed u left env })
-          (record { at = place_of right; answer = λ u env. typed u right env }) env
+      (record { at = place_of right; answer = λ u env. typed u right env }) env
   typed used (tree.Cond at test then else) env =
       and_then (as_test (place_of test) (typed true test env)) (λ c env.
       and_then (as_used (place_of then) (typed used then env)) (λ a env.
@@ -90,9 +90,9 @@ unfoldable mutual
   pub named : Pos → TypeName → Env → Answer CType
   named around (tree.NamedType specifiers declarator) env =
       and_then (of_specifiers specifiers
-          (each_specified (bare_context setting.TypeName) (outline specifiers env) specifiers nothing env)) (λ base env.
+      (each_specified (bare_context setting.TypeName) (outline specifiers env) specifiers nothing env)) (λ base env.
       of_derivations (name_in declarator) (record { at = around; may_vary = false }) base
-          (derived (own_place declarator around) declarator env))
+      (derived (own_place declarator around) declarator env))
 
   -- ---- 6.7.2, 6.7.3: specifiers, in the order of their tokens
 
@@ -141,16 +141,16 @@ unfoldable mutual
       Gives earlier env)
   member_typed (tree.Declares specifiers (tree.MoreDeclarators first rest)) earlier env =
       and_then (of_specifiers specifiers
-          (each_specified (bare_context setting.Member) (outline specifiers env) specifiers nothing env)) (λ base env.
+      (each_specified (bare_context setting.Member) (outline specifiers env) specifiers nothing env)) (λ base env.
       each_member (tree.MoreDeclarators first rest) base earlier env)
 
   pub each_member : Declarators → CType → List NamedType → Env → Answer (List NamedType)
   each_member tree.NoDeclarator base earlier env = Gives earlier env
   each_member (tree.MoreDeclarators first rest) base earlier env =
       and_then (of_derivations (name_in first) (record { at = start; may_vary = false }) base
-          (derived (own_place first start) first env)) (λ type env.
+      (derived (own_place first start) first env)) (λ type env.
       and_then (settle (own_place first start) env
-          (member_rule env.structures (names_among earlier) (name_or_none (name_in first)) type)) (λ stands env.
+      (member_rule env.structures (names_among earlier) (name_or_none (name_in first)) type)) (λ stands env.
       each_member rest base (earlier ++ record { name = name_or_none (name_in first); type = type } ∷ []) env))
 
   -- ---- 6.7.2.2: enumerators from a value on, each in scope behind its own value (6.2.1p7)
@@ -203,10 +203,10 @@ unfoldable mutual
   pub parameter_typed : Pos → Bool → Parameter → ℕ → Env → Answer (Option CType)
   parameter_typed around alone (tree.Param specifiers declarator) number env =
       and_then (of_specifiers specifiers
-          (each_specified (bare_context setting.Parameter) (outline specifiers env) specifiers nothing env))
-          (λ base env.
+      (each_specified (bare_context setting.Parameter) (outline specifiers env) specifiers nothing env))
+      (λ base env.
       and_then (of_derivations (name_in declarator) (record { at = around; may_vary = false }) base
-          (derived (own_place declarator around) declarator env)) (λ type env.
+      (derived (own_place declarator around) declarator env)) (λ type env.
       parameter_of alone specifiers declarator number type env))
 
 -- ---- what other crates ask
