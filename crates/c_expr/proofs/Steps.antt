@@ -50,3 +50,8 @@ pub then_refused : {A B : Type 0} (answer : Answer A) (number : ℕ) (at : Pos) 
     → answer ≡ Refuses number at → and_then answer next ≡ Refuses number at
 unfolding and_then
 then_refused answer number at next e = ap (λ x. and_then x next) e
+
+pub refused_then : {A B : Type 0} (answer : Answer A) (next : A → Env → Answer B) (fault : TypeFault)
+    → Refused answer fault → Refused (and_then answer next) fault
+refused_then answer next (fault.Constraint number at) refused = then_refused answer number at next refused
+refused_then answer next (fault.Memory cause) refused = tt

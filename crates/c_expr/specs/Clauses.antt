@@ -1,5 +1,5 @@
 -- What the functions of the program ensure: they answer what the walk does, unless memory runs out.
-use Rattle.std.specs.Prelude.{◌≡◌, List, Result, Ok, Err}
+use Rattle.std.specs.Prelude.{◌≡◌, List, Option, Result, Ok, Err}
 use Rattle.c_types.specs.declared.shape.TypeId.{TypeId}
 use Rattle.c_types.specs.CType.{CType, type_of}
 use Rattle.c_types.specs.Making.{Grows}
@@ -7,6 +7,7 @@ use Rattle.c_types.specs.Types.{Types}
 use Rattle.c_core.specs.declared.fault.TypeFault.{TypeFault}
 use Rattle.c_core.specs.declared.fault.TypeFault.TheVariants as fault
 use Rattle.c_core.specs.Ids.{IdIn}
+use Rattle.c_scopes.specs.Clauses.{type_or_none, OptionIn}
 use Rattle.c_scopes.specs.Env.{Env, env_of, ScopesIn}
 use Rattle.c_scopes.specs.Scopes.{Scope}
 use Rattle.c_expr.specs.Answers.{Answer, Gives, Refuses}
@@ -44,3 +45,7 @@ module _ {A B : Type 0} (view : Types → B → A) (In : Types → B → Type 0)
 
 abbrev pub AnswersType : Answer CType → Types → List Scope → Types → Result TypeId TypeFault → Type 0
 AnswersType = Answers type_of IdIn
+
+abbrev pub AnswersOption : Answer (Option CType) → Types → List Scope → Types → Result (Option TypeId) TypeFault
+    → Type 0
+AnswersOption = Answers type_or_none OptionIn

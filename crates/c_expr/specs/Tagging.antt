@@ -38,17 +38,24 @@ known_or_declared union tag None env =
     Gives (next_compound env.structures)
     (with_tag tag (next_compound env.structures) state.Declared (with_compound union env))
 
+abbrev pub known_compound : Bool → Tag → Bool → Env → Answer (Option CType)
+known_compound union tag alone env =
+    settle tag.pos env (compound_tag_rule env.structures union (tag_seen alone tag.name env))
+
 -- `struct tag`: a tag that is in scope, or a new one (6.7.2.3p8)
 abbrev pub tagged_compound : Bool → Tag → Bool → Env → Answer CType
 tagged_compound union tag alone env =
-    and_then (settle tag.pos env (compound_tag_rule env.structures union (tag_seen alone tag.name env)))
-    (λ known env. known_or_declared union tag known env)
+    and_then (known_compound union tag alone env) (λ known env. known_or_declared union tag known env)
 
 -- `enum tag`: a tag that is in scope
 abbrev pub tagged_enumeration : Tag → Env → Answer CType
 tagged_enumeration tag env = settle tag.pos env (enumerated_tag_rule (found env.scopes true tag.name))
 
 -- ---- with a body: the tag is in scope from its place on, and its type complete behind the body (6.2.1p7, 6.7.2.3p4)
+
+abbrev pub known_body : Bool → Tag → Env → Answer (Option CType)
+known_body union tag env =
+    settle tag.pos env (compound_body_rule env.structures union (found_here env.scopes true tag.name))
 
 abbrev pub completed_or_begun : Bool → Tag → Option CType → Env → Answer CType
 completed_or_begun union tag (Some type) env = Gives type (with_tag tag type state.Begun env)
@@ -59,8 +66,7 @@ completed_or_begun union tag None env =
 abbrev pub compound_begun : Bool → Option Tag → Env → Answer CType
 compound_begun union None env = Gives (next_compound env.structures) (with_compound union env)
 compound_begun union (Some tag) env =
-    and_then (settle tag.pos env (compound_body_rule env.structures union (found_here env.scopes true tag.name)))
-    (λ known env. completed_or_begun union tag known env)
+    and_then (known_body union tag env) (λ known env. completed_or_begun union tag known env)
 
 abbrev pub enumeration_begun : Option Tag → Env → Answer CType
 enumeration_begun None env = Gives (next_enumerated env.enumerations) (with_enumeration env)

@@ -5,4 +5,7 @@ pub mod naming;
 pub mod tagging;
 
 pub use naming::{bind_name, new_compound, new_enumeration};
-pub use tagging::{begin_compound, begin_enumeration, declare_compound, tagged_enumeration};
+pub use tagging::{
+    TagUse, begin_compound, begin_enumeration, declare_compound, tagged_body, tagged_compound,
+    tagged_enumeration,
+};
