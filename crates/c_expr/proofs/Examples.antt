@@ -12,8 +12,15 @@ use Rattle.c_syntax.specs.declared.specifier.Qualifier.TheVariants.{Restrict}
 use Rattle.c_syntax.specs.declared.specifier.Tag.{Tag}
 use Rattle.c_syntax.specs.Tree.{Expr, Const, Id, NamedType, Without, With, Specifier, Specifiers, NoSpecifier}
 use Rattle.c_syntax.specs.Tree.{MoreSpecifiers, TypeQualifier, BasicType, CompoundTag, Compound, EnumTag, Enum}
-use Rattle.c_syntax.specs.Tree.{Declares, NoMember, MoreMembers, NoDeclarator, MoreDeclarators, Enumerates,
-    Declarator}
+use Rattle.c_syntax.specs.Tree.{
+  Declares,
+  NoMember,
+  MoreMembers,
+  NoDeclarator,
+  MoreDeclarators,
+  Enumerates,
+  Declarator,
+}
 use Rattle.c_syntax.specs.Tree.{NoEnumerator, MoreEnumerators, Omitted, Name, DParen, PointerTo, ArrayOf, FunctionOf}
 use Rattle.c_syntax.specs.Tree.{Param, Parameters, NoParameter, MoreParameters}
 use Rattle.c_syntax.specs.Tree as tree

@@ -1,5 +1,5 @@
 -- A structure or union by its tag: one that is known, and one that is declared.
-use Rattle.std.proofs.Common.{◌≡◌, ◌∙◌, sym, List, Bool}
+use Rattle.std.proofs.Common.{◌≡◌, ◌∙◌, sym, List, Bool, true}
 use Rattle.std.specs.Prelude.{Option, Some, None}
 use Rattle.c_types.specs.declared.shape.TypeId.{TypeId}
 use Rattle.c_types.specs.CType.{type_of}
@@ -12,14 +12,15 @@ use Rattle.c_scopes.specs.declared.binding.TagState.TheVariants as state
 use Rattle.c_scopes.specs.Clauses.{OptionIn, type_or_none}
 use Rattle.c_scopes.specs.Env.{env_of}
 use Rattle.c_scopes.specs.Named.{TagOf, named_of}
-use Rattle.c_scopes.specs.Scopes.{Scope}
-use Rattle.c_type_rules.specs.Tags.{next_compound}
-use Rattle.c_expr.specs.Answers.{Gives}
+use Rattle.c_scopes.specs.Ruled.{Fits}
+use Rattle.c_scopes.specs.Scopes.{Scope, found_here}
+use Rattle.c_type_rules.specs.Tags.{next_compound, next_enumerated, enumerated_body_rule}
+use Rattle.c_expr.specs.Answers.{Gives, settle}
 use Rattle.c_expr.specs.Clauses.{Becomes, BecomesWith, Given}
-use Rattle.c_expr.specs.Environments.{with_name, with_compound}
+use Rattle.c_expr.specs.Environments.{with_name, with_compound, with_enumeration}
 use Rattle.c_expr.specs.Tagging.{known_compound, known_or_declared, tagged_compound}
-use Rattle.c_expr.specs.Tagging.{known_body, completed_or_begun, compound_begun}
-use Rattle.c_expr.proofs.Steps.{then_given}
+use Rattle.c_expr.specs.Tagging.{known_body, completed_or_begun, compound_begun, enumeration_begun, with_tag}
+use Rattle.c_expr.proofs.Steps.{fits_given, then_given}
 
 pub known_given : (union alone : Bool) (tag : Tag) (scopes : List Scope) (types : Types) (known : Option TypeId)
     (id : TypeId) → known ≡ Some id
@@ -90,3 +91,21 @@ body_of_new union tag before after old new known id e given made =
       here = made.becomes.here;
       grown = made.becomes.grown;
     }
+
+pub enumerators_of_new : (tag : Tag) (before after : List Scope) (old new : Types) (id : TypeId)
+    → enumerated_body_rule (found_here (env_of before old).scopes true tag.name) ≡ Fits tt
+    → BecomesWith (next_enumerated old.enumerations) (with_name tag.name
+    (TagOf (next_enumerated old.enumerations) state.Begun) (with_enumeration (env_of before old))) old after new id
+    → Given (enumeration_begun (Some tag) (env_of before old)) (type_of new id) (λ t. IdIn t id) old after new
+enumerators_of_new tag before after old new id fits made = record {
+  is = then_given
+      (settle tag.pos (env_of before old) (enumerated_body_rule (found_here (env_of before old).scopes true tag.name)))
+      tt (env_of before old) (λ new env. Gives (next_enumerated env.enumerations)
+      (with_tag tag (next_enumerated env.enumerations) state.Begun (with_enumeration env)))
+      (fits_given tag.pos (env_of before old)
+      (enumerated_body_rule (found_here (env_of before old).scopes true tag.name)) tt fits)
+      ∙ (λ i. Gives (sym made.stands_for i) (sym made.becomes.is i));
+  is_in = made.is_in;
+  here = made.becomes.here;
+  grown = made.becomes.grown;
+}

@@ -55,3 +55,14 @@ pub refused_then : {A B : Type 0} (answer : Answer A) (next : A → Env → Answ
     → Refused answer fault → Refused (and_then answer next) fault
 refused_then answer next (fault.Constraint number at) refused = then_refused answer number at next refused
 refused_then answer next (fault.Memory cause) refused = tt
+
+-- a node without types: its rule fits or breaks
+pub fits_given : {A : Type 0} (at : Pos) (env : Env) (rule : Ruled A) (a : A) → rule ≡ Fits a
+    → settle at env rule ≡ Gives a env
+fits_given at env rule a e = ap (settle at env) e ∙ settles_fit at env a
+
+pub breaks_refused : {A : Type 0} (at : Pos) (env : Env) (rule : Ruled A) (fault : TypeFault)
+    → BreaksAt rule at fault → Refused (settle at env rule) fault
+breaks_refused at env rule (fault.Constraint number place) says =
+    settles_break at env rule number place says.0 says.1
+breaks_refused at env rule (fault.Memory cause) says = tt

@@ -7,5 +7,8 @@ pub mod tagging;
 pub use naming::{bind_name, new_compound, new_enumeration};
 pub use tagging::{
     TagUse, begin_compound, begin_enumeration, declare_compound, tagged_body, tagged_compound,
-    tagged_enumeration,
+    tagged_enumeration, tagged_enumerators,
 };
+
+#[cfg(test)]
+mod tests;

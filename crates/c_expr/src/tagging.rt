@@ -15,7 +15,7 @@ use crate::naming::{bind_name, new_compound, new_enumeration};
 use c_core::TypeFault;
 use c_scopes::{Binding, Scopes, TagState};
 use c_syntax::Tag;
-use c_type_rules::{compound_body, compound_tag, enumerated_tag};
+use c_type_rules::{compound_body, compound_tag, enumerated_body, enumerated_tag};
 use c_types::{TypeId, TypeTable};
 use critical_table::Name;
 use std::alloc::AllocError;
@@ -180,6 +180,27 @@ pub fn tagged_body(
             }
         }
         Ok(None) => match begin_compound(scopes, types, is_union, &tag.name) {
+            Ok(of) => Ok(of),
+            Err(cause) => Err(TypeFault::Memory(cause)),
+        },
+    }
+}
+
+/// An enumeration with a tag, where its body begins (6.2.1p7, 6.7.2.3p1).
+///
+/// Constraint 6 where the tag stands for something in the innermost scope.
+pub fn tagged_enumerators(
+    scopes: &mut Scopes,
+    types: &mut TypeTable,
+    tag: &Tag,
+) -> Result<TypeId, TypeFault>
+    requires { ScopesIn types.old scopes.old }
+    ensures { AnswersType (spec.enumeration_begun (Some tag.now) (env_of scopes.old types.old))
+        types.old scopes.new types.new result }
+{
+    match enumerated_body(tag.pos, tag_seen(scopes, true, &tag.name)) {
+        Err(fault) => Err(fault),
+        Ok(()) => match begin_enumeration(scopes, types, &tag.name) {
             Ok(of) => Ok(of),
             Err(cause) => Err(TypeFault::Memory(cause)),
         },
