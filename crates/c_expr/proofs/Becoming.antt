@@ -3,7 +3,7 @@ use Rattle.std.proofs.Common.{◌≡◌, ◌∙◌, ap, refl, List, map, sym, su
 use Rattle.std.specs.Prelude.{Bool}
 use Rattle.c_types.specs.declared.shape.TypeId.{TypeId}
 use Rattle.c_types.specs.Compounds.{MakesCompound}
-use Rattle.c_types.specs.Making.{Grows, MakesEnumerated}
+use Rattle.c_types.specs.Making.{MakesEnumerated}
 use Rattle.c_types.specs.Structures.{structures_of}
 use Rattle.c_types.specs.CType.{CType}
 use Rattle.c_types.specs.Types.{Types}

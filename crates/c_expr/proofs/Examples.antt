@@ -1,6 +1,6 @@
 -- Small texts, each with what the walk answers, and which of two constraints is told.
-use Rattle.std.proofs.Common.{◌≡◌, ℕ, List, [], ◌∷◌, Bool, true, false, refl}
-use Rattle.std.specs.Prelude.{ℤ, pos, Option, Some, None, codes}
+use Rattle.std.proofs.Common.{◌≡◌, ℕ, List, [], ◌∷◌, true, false, refl}
+use Rattle.std.specs.Prelude.{pos, Option, Some, None, codes}
 use Rattle.critical_table.specs.declared.pos.Pos.{Pos}
 use Rattle.c_types.specs.declared.basic.Basic.TheVariants as b
 use Rattle.c_types.specs.CType.{CType, Nil, Cons, Plain, Array, Function, Compound, no_quals, void}
@@ -23,7 +23,6 @@ use Rattle.c_syntax.specs.Tree.{
 }
 use Rattle.c_syntax.specs.Tree.{NoEnumerator, MoreEnumerators, Omitted, Name, DParen, PointerTo, ArrayOf, FunctionOf}
 use Rattle.c_syntax.specs.Tree.{Param, Parameters, NoParameter, MoreParameters}
-use Rattle.c_syntax.specs.Tree as tree
 use Rattle.c_scopes.specs.Env.{Env}
 use Rattle.c_scopes.specs.Named.{Named, ConstantOf}
 use Rattle.c_scopes.specs.Scopes.{no_names, found}

@@ -5,13 +5,13 @@ use Rattle.critical_table.specs.declared.pos.Pos.{Pos}
 use Rattle.c_types.specs.Types.{Types}
 use Rattle.c_core.specs.declared.fault.TypeFault.{TypeFault}
 use Rattle.c_core.specs.declared.fault.TypeFault.TheVariants as fault
-use Rattle.c_scopes.specs.Clauses.{Follows, BreaksAt, Rules}
+use Rattle.c_scopes.specs.Clauses.{BreaksAt, Rules}
 use Rattle.c_scopes.specs.Env.{Env, ScopesIn, env_of}
 use Rattle.c_scopes.specs.Ruled.{Ruled, Fits, Breaks}
 use Rattle.c_scopes.specs.Scopes.{Scope}
 use Rattle.c_scopes.proofs.Growth.{env_kept, scopes_stay_in}
 use Rattle.c_expr.specs.Answers.{Answer, Gives, Refuses, and_then, settle}
-use Rattle.c_expr.specs.Clauses.{Answers, Given, Refused}
+use Rattle.c_expr.specs.Clauses.{Answers, Refused}
 
 -- a rule that fits or breaks
 settles_fit : {A : Type 0} (at : Pos) (env : Env) (a : A) → settle at env (Fits a) ≡ Gives a env

@@ -1,5 +1,5 @@
 -- What comes of a part of a unit: a value and what is in scope behind it, or the first constraint that fails.
-use Rattle.std.specs.Prelude.{ℕ, Option, Some, None}
+use Rattle.std.specs.Prelude.{ℕ}
 use Rattle.critical_table.specs.declared.pos.Pos.{Pos}
 use Rattle.c_scopes.specs.Env.{Env}
 use Rattle.c_scopes.specs.Ruled.{Ruled, Fits, Breaks}

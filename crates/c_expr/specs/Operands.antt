@@ -1,7 +1,7 @@
 -- The rules of expressions by the operators of the grammar, and of arguments by the function that is called.
 use Rattle.std.specs.Prelude.{ℕ, ◌+◌, ℤ, Bool, true, false, length, List, [], ◌∷◌}
 use Rattle.critical_table.specs.declared.pos.Pos.{Pos}
-use Rattle.c_types.specs.CType.{CType, CTypes, Nil, Cons, void}
+use Rattle.c_types.specs.CType.{CType, CTypes, Nil, Cons}
 use Rattle.c_types.specs.Functions.{parameters_of, variadic_of}
 use Rattle.c_types.specs.Structures.{Structure}
 use Rattle.c_core.specs.declared.operator.Comparison.{Comparison as Relates}

@@ -6,7 +6,7 @@ use Rattle.std.specs.Prelude.{ℕ, ◌+◌, ℤ, Bool, true, false, List, [], �
 use Rattle.critical_table.specs.declared.pos.Pos.{Pos}
 use Rattle.c_types.specs.CType.{CType, CTypes, Nil}
 use Rattle.c_core.specs.Constant.{constant_of}
-use Rattle.c_core.specs.Tree.{Core, Cores, NoCore, MoreCores}
+use Rattle.c_core.specs.Tree.{Cores, NoCore, MoreCores}
 use Rattle.c_syntax.specs.declared.operator.Access.TheVariants as access
 use Rattle.c_syntax.specs.Tree.{Expr, Exprs, Maybe, TypeName, Specifier, Specifiers, MemberDeclaration, Members}
 use Rattle.c_syntax.specs.Tree.{Declarators, Enumerators, Declarator, Parameter, Parameters}

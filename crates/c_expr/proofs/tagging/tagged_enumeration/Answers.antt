@@ -1,5 +1,5 @@
 -- The rule of a tag, by what it stands for.
-use Rattle.std.proofs.Common.{◌≡◌, ◌∙◌, true, subst}
+use Rattle.std.proofs.Common.{◌∙◌, true, subst}
 use Rattle.c_types.specs.CType.{type_of}
 use Rattle.c_core.specs.Ids.{IdIn}
 use Rattle.c_scopes.specs.Clauses.{RulesType}
