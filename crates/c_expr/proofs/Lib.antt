@@ -1,0 +1,5 @@
+pub mod Becoming
+pub mod Examples
+pub mod KnownTags
+pub mod Looking
+pub mod Steps

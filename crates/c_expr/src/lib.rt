@@ -1,0 +1,14 @@
+//! Which type a specifier list, a declarator and a type name stand for, and what an expression is (6.5, 6.7).
+#![tactic(auto)]
+
+pub mod naming;
+pub mod tagging;
+
+pub use naming::{bind_name, new_compound, new_enumeration};
+pub use tagging::{
+    TagUse, begin_compound, begin_enumeration, declare_compound, tagged_body, tagged_compound,
+    tagged_enumeration, tagged_enumerators,
+};
+
+#[cfg(test)]
+mod tests;
