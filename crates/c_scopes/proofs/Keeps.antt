@@ -1,8 +1,5 @@
 -- How tables that have made nothing but types compose.
 use Rattle.std.proofs.Common.{◌≡◌, ◌∙◌, refl}
-use Rattle.c_types.specs.declared.shape.TypeId.{TypeId}
-use Rattle.c_types.specs.CType.{CType}
-use Rattle.c_types.specs.Making.{MakesType}
 use Rattle.c_types.specs.Types.{Types}
 use Rattle.c_types.proofs.Kept.{grows_own, grows_then}
 use Rattle.c_scopes.specs.Clauses.{KeepsTable}
@@ -16,7 +13,3 @@ keeps_then old mid new before after = record {
   structures = after.structures ∙ before.structures;
   enumerations = after.enumerations ∙ before.enumerations;
 }
-
-pub keeps_made : (old new : Types) (id : TypeId) (made : CType) → MakesType old new id made → KeepsTable old new
-keeps_made old new id made makes =
-    record { grows = makes.grows; structures = makes.structures; enumerations = makes.enumerations }

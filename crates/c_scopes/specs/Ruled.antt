@@ -19,11 +19,6 @@ ruled (demand ∷ rest) a = cond demand.1 (ruled rest a) (Breaks demand.0)
 abbrev pub verdict : List Demand → Ruled (Unit {0})
 verdict demands = ruled demands tt
 
--- a rule that needs what another gives
-abbrev pub rule_then : {A B : Type 0} → Ruled A → (A → Ruled B) → Ruled B
-rule_then (Fits a) rule = rule a
-rule_then (Breaks number) rule = Breaks number
-
 -- ---- that the numbers rise, which each rule's list is proved to do
 
 -- the number is below all of these

@@ -5,11 +5,11 @@ use Rattle.c_types.specs.declared.layout.Layout.{Layout}
 use Rattle.c_types.specs.declared.fault.LayoutFault.{LayoutFault}
 use Rattle.c_types.specs.declared.fault.LayoutFault.TheVariants.{Incomplete, TooLarge}
 use Rattle.c_types.specs.CType.{CType, Plain, Array, BasicType, Pointer, Function, Compound, Enumerated}
-use Rattle.c_types.specs.Layouts.{layout_of, array_layout, array_fault, layout_fault, times, largest}
+use Rattle.c_types.specs.Layouts.{layout_of, array_layout, array_fault, largest}
 use Rattle.c_types.specs.Structures.{Structure}
 use Rattle.c_scopes.specs.Ruled.{Ruled, Fits, Breaks, Demand, ruled}
 use Rattle.c_conversions.specs.Versions.{is_function}
-use Rattle.c_type_rules.specs.Arrays.{array_demands, array_rule, is_without_length, is_layout_small}
+use Rattle.c_type_rules.specs.Arrays.{array_rule, is_without_length, is_layout_small}
 
 -- a function has no layout
 pub array_of_function : (structures : List Structure) (of : CType) (length : Option ℕ) → is_function of ≡ true

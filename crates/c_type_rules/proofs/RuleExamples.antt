@@ -1,15 +1,14 @@
 -- Each rule on either side of its constraints, and where two of them fail.
-use Rattle.std.proofs.Common.{◌≡◌, List, [], ◌∷◌, Bool, true, false, refl}
-use Rattle.std.specs.Prelude.{ℕ, ℤ, pos, negsuc, Option, Some, None, Result, Ok, Err, codes}
+use Rattle.std.proofs.Common.{◌≡◌, List, [], ◌∷◌, true, false, refl}
+use Rattle.std.specs.Prelude.{pos, negsuc, Some, None, Ok, Err, codes}
 use Rattle.c_types.specs.declared.basic.Basic.TheVariants as b
-use Rattle.c_types.specs.declared.shape.Quals.{Quals}
 use Rattle.c_types.specs.CType.{CType, Nil, Cons, Plain, Array, Pointer, Function, Compound, Enumerated, no_quals}
 use Rattle.c_types.specs.Structures.{Structure, no_members}
 use Rattle.c_core.specs.declared.fault.ConstFault.TheVariants.{NotConstant, Value}
 use Rattle.c_syntax.specs.declared.specifier.Qualifier.TheVariants.{Const, Restrict}
 use Rattle.c_syntax.specs.declared.specifier.Storage.TheVariants.{Auto, Register, Static}
 use Rattle.c_scopes.specs.declared.binding.TagState.TheVariants as state
-use Rattle.c_scopes.specs.Named.{Named, TagOf, TypedefOf}
+use Rattle.c_scopes.specs.Named.{TagOf, TypedefOf}
 use Rattle.c_scopes.specs.Ruled.{Fits, Breaks}
 use Rattle.c_conversions.specs.Kinds.{basic_type, pointer_to}
 use Rattle.c_type_rules.specs.declared.context.Setting.TheVariants as setting

@@ -1,5 +1,5 @@
 -- The list of 6.7.2p2, row by row, and some that are none.
-use Rattle.std.proofs.Common.{◌≡◌, List, [], ◌∷◌, refl}
+use Rattle.std.proofs.Common.{◌≡◌, [], ◌∷◌, refl}
 use Rattle.c_types.specs.declared.basic.Basic.TheVariants as b
 use Rattle.c_syntax.specs.declared.specifier.BasicWord.TheVariants.{Void, Char, Short, Int, Long, Signed, Unsigned}
 use Rattle.c_syntax.specs.declared.specifier.BasicWord.TheVariants.{Bool}

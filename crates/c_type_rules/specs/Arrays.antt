@@ -2,7 +2,7 @@
 use Rattle.std.specs.Prelude.{ℕ, ℤ, pos, ◌^◌, Bool, true, false, not, ◌&&◌, ◌||◌, nat_le, is_some, int_lt}
 use Rattle.std.specs.Prelude.{unsigned_abs, List, [], ◌∷◌, Option, Some, None, Result, Ok, Err}
 use Rattle.c_types.specs.declared.layout.Layout.{Layout}
-use Rattle.c_types.specs.CType.{CType, Plain, Array}
+use Rattle.c_types.specs.CType.{CType, Array}
 use Rattle.c_types.specs.Layouts.{layout_of, array_layout, largest}
 use Rattle.c_types.specs.Structures.{Structure}
 use Rattle.c_core.specs.declared.fault.ConstFault.{ConstFault}

@@ -1,5 +1,5 @@
 -- Members as the program keeps them, and what becomes of a table whose structure or union gets them.
-use Rattle.std.specs.Prelude.{◌≡◌, ℕ, Bool, List, length, map, slice_set, Result, Ok, Err}
+use Rattle.std.specs.Prelude.{◌≡◌, ℕ, List, length, map, slice_set, Result, Ok, Err}
 use Rattle.std.specs.BTreeSet.{BTreeSet, contains}
 use Rattle.std.specs.Cmp.Lexicographic.{slice_cmp}
 use Rattle.std.specs.Ordering.{nat_cmp}
