@@ -14,7 +14,7 @@ use Rattle.c_core.specs.declared.operator.Change.TheVariants as change
 use Rattle.c_core.specs.declared.operator.Operator.{Operator}
 use Rattle.c_core.specs.declared.operator.Operator.TheVariants as o
 use Rattle.c_core.specs.Operations.{is_shift}
-use Rattle.c_core.specs.Tree.{Core, At, Node}
+use Rattle.c_core.specs.Tree.{Core, At, Node, type_in}
 use Rattle.c_core.specs.Tree as tree
 use Rattle.c_scopes.specs.Ruled.{Ruled, Demand, ruled}
 use Rattle.c_conversions.specs.declared.operand.Category.{Category}
@@ -25,6 +25,7 @@ use Rattle.c_conversions.specs.Contents.{scalar_in, size_in}
 use Rattle.c_conversions.specs.Parts.{Part, value}
 use Rattle.c_conversions.specs.Converting.{number_as, promoted_value, converts, assigned}
 use Rattle.c_expr_rules.specs.Targets.{type_of_part, basic_in, is_complete, may_move, stride}
+use Rattle.c_expr_rules.specs.Unary.{is_designator}
 use Rattle.c_expr_rules.specs.Binary.{are_integers, are_pointer_and_integer}
 
 -- ---- modifiable lvalues (6.3.2.1p1)
@@ -46,16 +47,21 @@ convert_demands type part = (30, converts type part) ∷ []
 abbrev pub convert_rule : CType → Part → Ruled Core
 convert_rule type part = ruled (convert_demands type part) (assigned type part)
 
--- values of the type can be stored; of what is assigned to another nothing is asked, since that is no modifiable lvalue
-abbrev pub may_hold : List Structure → CType → Bool
-may_hold structures type = is_scalar type || (is_compound type && is_complete type structures)
+-- The target holds values of a scalar, or of a complete structure or union. Of what is assigned to another nothing is
+-- asked at the value, since the target is no modifiable lvalue.
+abbrev pub may_hold : List Structure → Part → Bool
+may_hold structures target = not (is_designator target.category)
+    && (is_scalar (type_of_part target)
+    || (is_compound (type_of_part target) && is_complete (type_of_part target) structures))
 
--- the right operand of `=`, whose left operand has this type
-abbrev pub assigned_demands : List Structure → CType → Part → List Demand
-assigned_demands structures type part = (30, not (may_hold structures type) || converts type part) ∷ []
+-- the right operand of `=`
+abbrev pub assigned_demands : List Structure → Part → Part → List Demand
+assigned_demands structures target part =
+    (30, not (may_hold structures target) || converts (type_of_part target) part) ∷ []
 
-abbrev pub assigned_rule : List Structure → CType → Part → Ruled Core
-assigned_rule structures type part = ruled (assigned_demands structures type part) (assigned type part)
+abbrev pub assigned_rule : List Structure → Part → Part → Ruled Core
+assigned_rule structures target part =
+    ruled (assigned_demands structures target part) (assigned (type_of_part target) part)
 
 -- ---- `=` (6.5.16p2, p3; 6.5.16.1p2)
 
@@ -66,16 +72,20 @@ abbrev pub store : List Structure → CType → Option Scalar → Core → Core 
 store structures type (Some scalar) place core = tree.Assign scalar place core
 store structures type None place core = tree.AssignWhole (size_in (layout_of type structures)) place core
 
-abbrev pub assign_part : List Structure → Pos → Part → Core → Part
-assign_part structures at target core =
-    value (At (without_quals (type_of_part target)) at
-        (store structures (type_of_part target) (scalar_in (type_of_part target)) target.core core))
+-- a store, as a value of a type
+abbrev pub stored : List Structure → Pos → CType → Core → Core → Part
+stored structures at type place core =
+    value (At type at (store structures (type_in place) (scalar_in (type_in place)) place core))
+
+abbrev pub assignment : List Structure → Pos → Core → Core → Part
+assignment structures at place core = stored structures at (without_quals (type_in place)) place core
 
 abbrev pub assign_rule : List Structure → Pos → Part → Core → Ruled Part
 assign_rule structures at target core =
-    ruled (assign_demands structures target) (assign_part structures at target core)
+    ruled (assign_demands structures target) (assignment structures at target.core core)
 
--- ---- compound assignment (6.5.16.2p1 to p3): the number that the object holds is converted, changed, and converted back
+-- ---- compound assignment (6.5.16.2p1 to p3): the number that the object holds is converted, changed and converted
+-- back
 
 abbrev pub moves_pointer : Operator → Bool
 moves_pointer o.Add = true
@@ -86,36 +96,44 @@ abbrev pub takes_off : Operator → Bool
 takes_off o.Subtract = true
 takes_off other = false
 
+abbrev pub may_change : Operator → Part → Part → Bool
+may_change operator target right =
+    are_integers target right || (moves_pointer operator && are_pointer_and_integer target right)
+
 abbrev pub compound_demands : List Structure → Operator → Part → Part → List Demand
 compound_demands structures operator target right =
-    (22, is_modifiable structures target)
-    ∷ (26, are_integers target right || (moves_pointer operator && are_pointer_and_integer target right))
+    (22, is_modifiable structures target) ∷ (26, may_change operator target right)
     ∷ (27, may_move structures (type_of_part target)) ∷ []
 
 -- the type in which the operator works
 abbrev pub working_type : Operator → Basic → Basic → Basic
 working_type operator left right = if is_shift operator then promoted left else common left right
 
+-- how an object of the first type is changed by a value of the second
+abbrev pub change_by : List Structure → Operator → CType → CType → Change
+change_by structures operator left right =
+    if is_pointer left then change.Pointer (stride structures left (takes_off operator))
+    else change.Number operator (int_kind (basic_in left))
+    (int_kind (working_type operator (basic_in left) (basic_in right)))
+
 -- the count of a shift keeps its own type
 abbrev pub operand_in : Operator → Basic → Core → Core
 operand_in operator basic core = if is_shift operator then promoted_value core else number_as basic core
 
-abbrev pub number_update : Operator → Part → Part → Node
-number_update operator target right =
-    let left = basic_in (type_of_part target) in
-    let basic = working_type operator left (basic_in (type_of_part right)) in
-    tree.Update (change.Number operator (int_kind left) (int_kind basic)) target.core
-        (operand_in operator basic right.core)
+-- the right operand, where the left one has this type
+abbrev pub changing : Operator → CType → Core → Core
+changing operator left core =
+    if is_pointer left then core
+    else operand_in operator (working_type operator (basic_in left) (basic_in (type_in core))) core
 
-abbrev pub pointer_update : List Structure → Operator → Part → Part → Node
-pointer_update structures operator target right =
-    tree.Update (change.Pointer (stride structures (type_of_part target) (takes_off operator))) target.core right.core
+-- an update of a place, in the unqualified version of its type (6.5.16p3)
+abbrev pub update : Pos → Change → Core → Core → Part
+update at change place core = value (At (without_quals (type_in place)) at (tree.Update change place core))
 
 abbrev pub compound_part : List Structure → Pos → Operator → Part → Part → Part
 compound_part structures at operator target right =
-    value (At (without_quals (type_of_part target)) at
-        (if is_pointer (type_of_part target) then pointer_update structures operator target right
-            else number_update operator target right))
+    update at (change_by structures operator (type_of_part target) (type_of_part right)) target.core
+    (changing operator (type_of_part target) right.core)
 
 abbrev pub compound_rule : List Structure → Pos → Operator → Part → Part → Ruled Part
 compound_rule structures at operator target right =
@@ -142,21 +160,16 @@ abbrev pub one : Pos → Core
 one at = At (basic_type b.Int) at (tree.Number (int_kind b.Int) (pos 1))
 
 -- `++E` and `--E`
-abbrev pub prefix_part : List Structure → Pos → Bool → Part → Part
-prefix_part structures at back target =
-    value (At (without_quals (type_of_part target)) at
-        (tree.Update (step_change structures back (type_of_part target)) target.core (one at)))
-
 abbrev pub prefix_rule : List Structure → Pos → Bool → Part → Ruled Part
 prefix_rule structures at back target =
-    ruled (step_demands structures target) (prefix_part structures at back target)
+    ruled (step_demands structures target)
+    (update at (step_change structures back (type_of_part target)) target.core (one at))
 
 -- `E++` and `E--`
-abbrev pub postfix_part : List Structure → Pos → Bool → Part → Part
-postfix_part structures at back target =
-    value (At (without_quals (type_of_part target)) at
-        (tree.Postfix (step_change structures back (type_of_part target)) target.core))
+abbrev pub step : Pos → Change → Core → Part
+step at change place = value (At (without_quals (type_in place)) at (tree.Postfix change place))
 
 abbrev pub postfix_rule : List Structure → Pos → Bool → Part → Ruled Part
 postfix_rule structures at back target =
-    ruled (step_demands structures target) (postfix_part structures at back target)
+    ruled (step_demands structures target)
+    (step at (step_change structures back (type_of_part target)) target.core)

@@ -28,14 +28,14 @@ abbrev pub shifted : Pos → Operator → Part → Part → Part
 shifted at operator left right =
     let basic = promoted (basic_in (type_of_part left)) in
     value (At (basic_type basic) at
-        (tree.Arithmetic operator (int_kind basic) (promoted_value left.core) (promoted_value right.core)))
+    (tree.Arithmetic operator (int_kind basic) (promoted_value left.core) (promoted_value right.core)))
 
 -- the usual arithmetic conversions (6.3.1.8)
 abbrev pub with_common : Pos → Operator → Part → Part → Part
 with_common at operator left right =
     let basic = common (basic_in (type_of_part left)) (basic_in (type_of_part right)) in
     value (At (basic_type basic) at
-        (tree.Arithmetic operator (int_kind basic) (number_as basic left.core) (number_as basic right.core)))
+    (tree.Arithmetic operator (int_kind basic) (number_as basic left.core) (number_as basic right.core)))
 
 abbrev pub arithmetic_part : Pos → Operator → Part → Part → Part
 arithmetic_part at operator left right =
@@ -60,14 +60,18 @@ abbrev pub both_move : List Structure → Part → Part → Bool
 both_move structures left right =
     may_move structures (type_of_part left) && may_move structures (type_of_part right)
 
+abbrev pub moved_value : List Structure → Pos → Bool → Bool → Core → Core → Part
+moved_value structures at back number_first pointer number =
+    value (moved structures at back number_first pointer number)
+
 abbrev pub add_demands : List Structure → Part → Part → List Demand
 add_demands structures left right = (26, may_add left right) ∷ (27, both_move structures left right) ∷ []
 
 abbrev pub add_part : List Structure → Pos → Part → Part → Part
 add_part structures at left right =
-    if is_pointer (type_of_part left) then value (moved structures at false false left.core right.core)
-    else (if is_pointer (type_of_part right) then value (moved structures at false true right.core left.core)
-        else with_common at o.Add left right)
+    if is_pointer (type_of_part left) then moved_value structures at false false left.core right.core
+    else (if is_pointer (type_of_part right) then moved_value structures at false true right.core left.core
+    else with_common at o.Add left right)
 
 abbrev pub add_rule : List Structure → Pos → Part → Part → Ruled Part
 add_rule structures at left right = ruled (add_demands structures left right) (add_part structures at left right)
@@ -86,16 +90,16 @@ abbrev pub subtract_demands : List Structure → Part → Part → List Demand
 subtract_demands structures left right =
     (26, may_subtract left right) ∷ (27, both_move structures left right) ∷ []
 
-abbrev pub difference : List Structure → Pos → Part → Part → Part
-difference structures at left right =
+abbrev pub pointer_difference : List Structure → Pos → Part → Part → Part
+pointer_difference structures at left right =
     value (At (basic_type b.Long) at
-        (tree.Difference (size_in (layout_of (target_of (type_of_part left)) structures)) left.core right.core))
+    (tree.Difference (size_in (layout_of (target_of (type_of_part left)) structures)) left.core right.core))
 
 abbrev pub subtract_part : List Structure → Pos → Part → Part → Part
 subtract_part structures at left right =
-    if is_pointer (type_of_part right) then difference structures at left right
-    else (if is_pointer (type_of_part left) then value (moved structures at true false left.core right.core)
-        else with_common at o.Subtract left right)
+    if is_pointer (type_of_part right) then pointer_difference structures at left right
+    else (if is_pointer (type_of_part left) then moved_value structures at true false left.core right.core
+    else with_common at o.Subtract left right)
 
 abbrev pub subtract_rule : List Structure → Pos → Part → Part → Ruled Part
 subtract_rule structures at left right =
@@ -110,15 +114,18 @@ binary_rule structures at other left right = arithmetic_rule at other left right
 
 -- ---- `&&` and `||` (6.5.13p2, p3; 6.5.14p2, p3)
 
+abbrev pub are_scalars : Part → Part → Bool
+are_scalars left right = is_scalar (type_of_part left) && is_scalar (type_of_part right)
+
 abbrev pub logical_demands : Part → Part → List Demand
-logical_demands left right = (26, is_scalar (type_of_part left) && is_scalar (type_of_part right)) ∷ []
+logical_demands left right = (26, are_scalars left right) ∷ []
 
 abbrev pub and_rule : Pos → Part → Part → Ruled Part
 and_rule at left right =
     ruled (logical_demands left right)
-        (value (At (basic_type b.Int) at (tree.AndAlso (truth_value left.core) (truth_value right.core))))
+    (value (At (basic_type b.Int) at (tree.AndAlso (truth_value left.core) (truth_value right.core))))
 
 abbrev pub or_rule : Pos → Part → Part → Ruled Part
 or_rule at left right =
     ruled (logical_demands left right)
-        (value (At (basic_type b.Int) at (tree.OrElse (truth_value left.core) (truth_value right.core))))
+    (value (At (basic_type b.Int) at (tree.OrElse (truth_value left.core) (truth_value right.core))))

@@ -1,5 +1,5 @@
 -- Calls (6.5.2.2).
-use Rattle.std.specs.Prelude.{Bool, true, false, not, ◌&&◌, ◌||◌, List, [], ◌∷◌, Option, Some, None, is_some}
+use Rattle.std.specs.Prelude.{ℕ, ◌+◌, ◌==◌, nat_lt, Bool, not, ◌&&◌, ◌||◌, List, [], ◌∷◌, Option, Some, None, is_some}
 use Rattle.critical_table.specs.declared.pos.Pos.{Pos}
 use Rattle.c_types.specs.CType.{CType, CTypes, Nil, Cons}
 use Rattle.c_types.specs.Functions.{gives_of, parameters_of, variadic_of}
@@ -37,12 +37,20 @@ further_rule part = ruled (further_demands part) (promoted_value part.core)
 abbrev pub may_call : Part → Bool
 may_call function = is_pointer (type_of_part function) && is_function (target_of (type_of_part function))
 
+abbrev pub count_of_types : CTypes → ℕ
+count_of_types Nil = 0
+count_of_types (Cons type types) = count_of_types types + 1
+
+abbrev pub count_of_cores : Cores → ℕ
+count_of_cores NoCore = 0
+count_of_cores (MoreCores first rest) = count_of_cores rest + 1
+
+abbrev pub is_enough : Bool → ℕ → ℕ → Bool
+is_enough variadic wanted given = wanted == given || (variadic && nat_lt wanted given)
+
 -- as many arguments as parameters, or more where the function is variadic (6.5.2.2p2)
 abbrev pub are_as_many : CTypes → Bool → Cores → Bool
-are_as_many Nil variadic NoCore = true
-are_as_many Nil variadic (MoreCores first rest) = variadic
-are_as_many (Cons type types) variadic NoCore = false
-are_as_many (Cons type types) variadic (MoreCores first rest) = are_as_many types variadic rest
+are_as_many types variadic arguments = is_enough variadic (count_of_types types) (count_of_cores arguments)
 
 abbrev pub result_in : Part → CType
 result_in function = gives_of (target_of (type_of_part function))
@@ -54,8 +62,11 @@ has_result structures function = not (may_call function) || is_some (given_in (r
 abbrev pub call_demands : List Structure → Part → Cores → List Demand
 call_demands structures function arguments =
     (7, has_result structures function) ∷ (32, may_call function)
-    ∷ (33, are_as_many (parameters_of (target_of (type_of_part function)))
-        (variadic_of (target_of (type_of_part function))) arguments) ∷ []
+    ∷ (
+      33,
+      are_as_many (parameters_of (target_of (type_of_part function)))
+          (variadic_of (target_of (type_of_part function))) arguments,
+    ) ∷ []
 
 abbrev pub or_nothing : Option (Option Content) → Option Content
 or_nothing None = None

@@ -30,16 +30,22 @@ cast_demands type part = (31, may_cast type part) ∷ []
 
 -- The result has the unqualified version of the type. An integer constant expression with the value 0 that is cast to
 -- `void *` is a null pointer constant (6.3.2.3p3).
+abbrev pub pointer_core : Pos → CType → Part → Core
+pointer_core at type part = At (without_quals type) at (pointer_node (is_null part) part.core)
+
 abbrev pub cast_pointer : Pos → CType → Part → Part
 cast_pointer at type part = record {
   category = c.Value;
   null = is_plain_void_pointer type && is_zero_constant part.core;
-  core = At (without_quals type) at (pointer_node (is_null part) part.core);
+  core = pointer_core at type part;
 }
 
+abbrev pub converted_number : Pos → CType → Core → Part
+converted_number at type core =
+    value (At (without_quals type) at (tree.Convert (int_kind (basic_in type)) core))
+
 abbrev pub cast_number : Pos → CType → Part → Part
-cast_number at type part =
-    value (At (without_quals type) at (tree.Convert (int_kind (basic_in type)) (truth_value part.core)))
+cast_number at type part = converted_number at type (truth_value part.core)
 
 abbrev pub cast_part : Pos → CType → Part → Part
 cast_part at type part = if is_pointer type then cast_pointer at type part else cast_number at type part

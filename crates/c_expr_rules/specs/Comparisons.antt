@@ -22,14 +22,16 @@ abbrev pub compared : Pos → Comparison → Part → Part → Part
 compared at comparison left right =
     let basic = common (basic_in (type_of_part left)) (basic_in (type_of_part right)) in
     value (At (basic_type b.Int) at
-        (tree.Compare comparison (number_as basic left.core) (number_as basic right.core)))
+    (tree.Compare comparison (number_as basic left.core) (number_as basic right.core)))
 
 -- ---- `<`, `>`, `<=`, `>=`: pointers to versions of compatible object types (6.5.8p2)
 
+abbrev pub may_relate : Part → Part → Bool
+may_relate left right = are_integers left right
+    || (point_to_versions left right && not (is_function (target_of (type_of_part left))))
+
 abbrev pub relational_demands : Part → Part → List Demand
-relational_demands left right =
-    (28, are_integers left right
-        || (point_to_versions left right && not (is_function (target_of (type_of_part left))))) ∷ []
+relational_demands left right = (28, may_relate left right) ∷ []
 
 abbrev pub comparison_of : Relation → Comparison
 comparison_of r.Less = c.Less
@@ -37,10 +39,12 @@ comparison_of r.LessEqual = c.LessEqual
 comparison_of r.GreaterEqual = c.GreaterEqual
 comparison_of r.Greater = c.Greater
 
+abbrev pub ordered : Pos → Relation → Part → Part → Part
+ordered at relation left right = value (At (basic_type b.Int) at (tree.Order relation left.core right.core))
+
 abbrev pub relational_part : Pos → Relation → Part → Part → Part
 relational_part at relation left right =
-    if is_pointer (type_of_part left)
-    then value (At (basic_type b.Int) at (tree.Order relation left.core right.core))
+    if is_pointer (type_of_part left) then ordered at relation left right
     else compared at (comparison_of relation) left right
 
 abbrev pub relational_rule : Pos → Relation → Part → Part → Ruled Part
@@ -57,17 +61,19 @@ is_void_and_object a b = is_void a && not (is_function b)
 abbrev pub are_alike : Part → Part → Bool
 are_alike left right = is_pointer (type_of_part left) && is_pointer (type_of_part right)
     && (are_versions (target_of (type_of_part left)) (target_of (type_of_part right))
-        || is_void_and_object (target_of (type_of_part left)) (target_of (type_of_part right))
-        || is_void_and_object (target_of (type_of_part right)) (target_of (type_of_part left)))
+    || is_void_and_object (target_of (type_of_part left)) (target_of (type_of_part right))
+    || is_void_and_object (target_of (type_of_part right)) (target_of (type_of_part left)))
 
 -- the first is a pointer and the second a null pointer constant
 abbrev pub are_pointer_and_null : Part → Part → Bool
 are_pointer_and_null left right = is_pointer (type_of_part left) && is_null right
 
+abbrev pub may_equal : Part → Part → Bool
+may_equal left right = are_integers left right || are_pointer_and_null left right || are_pointer_and_null right left
+    || are_alike left right
+
 abbrev pub equality_demands : Part → Part → List Demand
-equality_demands left right =
-    (28, are_integers left right || are_pointer_and_null left right || are_pointer_and_null right left
-        || are_alike left right) ∷ []
+equality_demands left right = (28, may_equal left right) ∷ []
 
 -- the equality operators on numbers
 abbrev pub equality_comparison : Bool → Comparison
@@ -76,17 +82,21 @@ equality_comparison equal = if equal then c.Equal else c.NotEqual
 abbrev pub same : Pos → Bool → Core → Core → Part
 same at equal left right = value (At (basic_type b.Int) at (tree.Same equal left right))
 
+abbrev pub same_as_left : Pos → Bool → Part → Part → Part
+same_as_left at equal left right = same at equal left.core (pointer_as (type_of_part left) right)
+
+abbrev pub same_as_right : Pos → Bool → Part → Part → Part
+same_as_right at equal left right = same at equal (pointer_as (type_of_part right) left) right.core
+
 -- A null pointer constant is converted to the type of the other operand, a pointer to an object type to a pointer to
 -- `void` where the other is one (6.5.9p5).
 abbrev pub same_part : Pos → Bool → Part → Part → Part
 same_part at equal left right =
-    if are_pointer_and_null left right then same at equal left.core (pointer_as (type_of_part left) right)
-    else (if is_null left then same at equal (pointer_as (type_of_part right) left) right.core
-        else (if is_void (target_of (type_of_part left))
-            then same at equal left.core (pointer_as (type_of_part left) right)
-            else (if is_void (target_of (type_of_part right))
-                then same at equal (pointer_as (type_of_part right) left) right.core
-                else same at equal left.core right.core)))
+    if are_pointer_and_null left right then same_as_left at equal left right
+    else (if is_null left then same_as_right at equal left right
+    else (if is_void (target_of (type_of_part left)) then same_as_left at equal left right
+    else (if is_void (target_of (type_of_part right)) then same_as_right at equal left right
+    else same at equal left.core right.core)))
 
 abbrev pub equality_part : Pos → Bool → Part → Part → Part
 equality_part at equal left right =

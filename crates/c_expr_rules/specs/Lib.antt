@@ -11,3 +11,4 @@ pub mod Conditional
 pub mod Assignment
 pub mod Casts
 pub mod Calls
+pub mod Laws

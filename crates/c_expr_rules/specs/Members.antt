@@ -59,7 +59,7 @@ arrow_demands structures name part =
 abbrev pub arrow_part : List Structure → Pos → List ℕ → Part → Part
 arrow_part structures at name part =
     lvalue (member_core at (member_or_none (member_in (target_of (type_of_part part)) structures name))
-        (reached structures by.Arrow at part.core))
+    (reached structures by.Arrow at part.core))
 
 abbrev pub arrow_rule : List Structure → Pos → List ℕ → Part → Ruled Part
 arrow_rule structures at name part =

@@ -1,6 +1,7 @@
 -- `&`, `*` and `[ ]` (6.5.2.1, 6.5.3.2).
 use Rattle.std.specs.Prelude.{Bool, true, false, not, ◌&&◌, ◌||◌, List, [], ◌∷◌, if◌then◌else◌}
 use Rattle.critical_table.specs.declared.pos.Pos.{Pos}
+use Rattle.c_types.specs.CType.{CType}
 use Rattle.c_types.specs.Layouts.{layout_of}
 use Rattle.c_types.specs.Structures.{Structure}
 use Rattle.c_core.specs.declared.operator.By.{By}
@@ -44,11 +45,13 @@ abbrev pub pointer_below : Node → Core → Core
 pointer_below (tree.Reach by.Star size align pointer) core = pointer
 pointer_below other core = core
 
+abbrev pub place_address : Pos → Core → Core
+place_address at core = At (pointer_to (type_in core)) at (tree.AddressOf core)
+
 -- Of `&*E` only `E` is evaluated, and of `&E[F]` only the addition (6.5.3.2p3).
 abbrev pub address_core : Pos → Core → Core
 address_core at core =
-    if is_reached (node_in core) then pointer_below (node_in core) core
-    else At (pointer_to (type_in core)) at (tree.AddressOf core)
+    if is_reached (node_in core) then pointer_below (node_in core) core else place_address at core
 
 abbrev pub address_part : Pos → Part → Part
 address_part at part = if is_designator part.category then value part.core else value (address_core at part.core)
@@ -58,10 +61,12 @@ address_rule at part = ruled (address_demands part) (address_part at part)
 
 -- ---- 6.5.3.2p2, p4
 
+abbrev pub may_deref : List Structure → Part → Bool
+may_deref structures part = is_pointer (type_of_part part)
+    && (is_function (target_of (type_of_part part)) || is_complete (target_of (type_of_part part)) structures)
+
 abbrev pub deref_demands : List Structure → Part → List Demand
-deref_demands structures part =
-    let target = target_of (type_of_part part) in
-    (24, is_pointer (type_of_part part) && (is_function target || is_complete target structures)) ∷ []
+deref_demands structures part = (24, may_deref structures part) ∷ []
 
 abbrev pub deref_part : List Structure → Pos → Part → Part
 deref_part structures at part =
@@ -73,25 +78,30 @@ deref_rule structures at part = ruled (deref_demands structures part) (deref_par
 
 -- ---- 6.5.2.1: `E[F]` is `*((E) + (F))`, and either may be the pointer
 
-abbrev pub may_index : List Structure → Part → Part → Bool
+abbrev pub may_index : List Structure → CType → CType → Bool
 may_index structures pointer number =
-    is_pointer (type_of_part pointer) && is_complete (target_of (type_of_part pointer)) structures
-    && is_integer (type_of_part number)
+    is_pointer pointer && is_complete (target_of pointer) structures && is_integer number
 
 abbrev pub index_demands : List Structure → Part → Part → List Demand
-index_demands structures left right =
-    (35, may_index structures left right || may_index structures right left) ∷ []
+index_demands structures left right = (
+  35,
+  may_index structures (type_of_part left) (type_of_part right)
+      || may_index structures (type_of_part right) (type_of_part left),
+) ∷ []
 
 -- a pointer that has moved by a number of elements
 abbrev pub moved : List Structure → Pos → Bool → Bool → Core → Core → Core
 moved structures at back number_first pointer number =
     At (type_in pointer) at (tree.Step (stride structures (type_in pointer) back) number_first pointer number)
 
+abbrev pub element : List Structure → Pos → Bool → Bool → Core → Core → Part
+element structures at back number_first pointer number =
+    lvalue (reached structures by.Star at (moved structures at back number_first pointer number))
+
 abbrev pub index_part : List Structure → Pos → Part → Part → Part
 index_part structures at left right =
-    if is_pointer (type_of_part left)
-    then lvalue (reached structures by.Star at (moved structures at false false left.core right.core))
-    else lvalue (reached structures by.Star at (moved structures at false true right.core left.core))
+    if is_pointer (type_of_part left) then element structures at false false left.core right.core
+    else element structures at false true right.core left.core
 
 abbrev pub index_rule : List Structure → Pos → Part → Part → Ruled Part
 index_rule structures at left right =

@@ -1,0 +1,3 @@
+-- The lemmas of the crate, and the answers to single functions in folders of their names.
+pub mod Counting
+mod Examples

@@ -1,0 +1,36 @@
+use Rattle.std.proofs.Common.{arith}
+use Rattle.c_expr_rules.proofs.law.rising_law.Goals as goal
+
+pub returns : goal.returns
+returns c = record {
+  used = λ structures part. (tt, tt);
+  value = λ structures part. ((omega arith, tt), (tt, tt));
+  test = λ structures part. ((omega arith, (omega arith, tt)), ((omega arith, tt), (tt, tt)));
+  switch = λ structures part. ((omega arith, (omega arith, tt)), ((omega arith, tt), (tt, tt)));
+  literal = λ wide units. (tt, tt);
+  sign = λ part. (tt, tt);
+  not = λ part. (tt, tt);
+  measure = λ structures type. (tt, tt);
+  size_of = λ structures part. (tt, tt);
+  address = λ part. (tt, tt);
+  deref = λ structures part. (tt, tt);
+  index = λ structures left right. (tt, tt);
+  dot = λ structures name part. (tt, tt);
+  arrow = λ structures name part. (tt, tt);
+  arithmetic = λ left right. (tt, tt);
+  add = λ structures left right. ((omega arith, tt), (tt, tt));
+  subtract = λ structures left right. ((omega arith, tt), (tt, tt));
+  logical = λ left right. (tt, tt);
+  relational = λ left right. (tt, tt);
+  equality = λ left right. (tt, tt);
+  conditional = λ left right. (tt, tt);
+  convert = λ type part. (tt, tt);
+  assigned = λ structures target part. (tt, tt);
+  assign = λ structures target. (tt, tt);
+  compound = λ structures operator target right. ((omega arith, (omega arith, tt)), ((omega arith, tt), (tt, tt)));
+  step = λ structures target. ((omega arith, (omega arith, tt)), ((omega arith, tt), (tt, tt)));
+  cast = λ type part. (tt, tt);
+  pass = λ type part. (tt, tt);
+  further = λ part. (tt, tt);
+  call = λ structures function arguments. ((omega arith, (omega arith, tt)), ((omega arith, tt), (tt, tt)));
+}
