@@ -17,7 +17,6 @@ use Rattle.c_expr_rules.specs.Casts.{cast_rule}
 use Rattle.c_expr_rules.specs.Comparisons.{comparison_rule}
 use Rattle.c_expr_rules.specs.Conditional.{comma_part}
 use Rattle.c_expr_rules.specs.Pointers.{address_rule, deref_rule}
-use Rattle.c_expr_rules.specs.Targets.{type_of_part}
 use Rattle.c_expr_rules.specs.Unary.{size_of_rule}
 use Rattle.c_expr_rules.specs.Uses.{used_rule, value_rule, test_rule, discard_rule}
 use Rattle.c_expr.specs.Answers.{Answer, Gives, and_then, settle}
@@ -42,7 +41,7 @@ as_unused at part = and_then part (λ p env. settle at env (discard_rule env.str
 -- as the value that is assigned to what another expression designates
 unfoldable pub as_assigned : Part → Pos → Answer Part → Answer Core
 as_assigned target at part =
-    and_then (as_used at part) (λ v env. settle at env (assigned_rule env.structures (type_of_part target) v))
+    and_then (as_used at part) (λ v env. settle at env (assigned_rule env.structures target v))
 
 -- as an argument, where these parameters are left
 unfoldable pub as_argument : CTypes → Bool → Pos → Answer Part → Answer Core
