@@ -1,5 +1,5 @@
 -- How many parameters and arguments there are.
-use Rattle.std.proofs.Common.{◌≡◌, ℕ, ◌+◌, List, [], ◌∷◌, map, length, refl, ◌∙◌, ap, sym, arith}
+use Rattle.std.proofs.Common.{◌≡◌, List, [], ◌∷◌, map, length, refl, ◌∙◌, ap, sym, arith}
 use Rattle.c_types.specs.declared.shape.TypeId.{TypeId}
 use Rattle.c_types.specs.CType.{CType, CTypes, types_at}
 use Rattle.c_core.specs.declared.expression.CoreExpr.{CoreExpr}

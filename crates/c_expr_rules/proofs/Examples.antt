@@ -1,5 +1,5 @@
 -- Expressions on either side of each rule: the number that is broken, or the type that is given.
-use Rattle.std.proofs.Common.{◌≡◌, ℕ, Bool, true, false, List, [], ◌∷◌, Option, Some, None, ℤ, pos, refl}
+use Rattle.std.proofs.Common.{◌≡◌, ℕ, Bool, true, false, List, [], ◌∷◌, Option, Some, None, pos, refl}
 use Rattle.critical_table.specs.declared.pos.Pos.{Pos}
 use Rattle.c_types.specs.declared.basic.Basic.TheVariants as basic
 use Rattle.c_types.specs.declared.shape.Quals.{Quals}
@@ -8,8 +8,6 @@ use Rattle.c_types.specs.CType as type
 use Rattle.c_types.specs.Compatible.{agree, bare_agree, all_agree}
 use Rattle.c_types.specs.Composite.{composite_of, bare_composite}
 use Rattle.c_types.specs.Structures.{Structure}
-use Rattle.c_core.specs.declared.form.Content.TheVariants as content
-use Rattle.c_core.specs.declared.form.Scalar.TheVariants as scalar
 use Rattle.c_core.specs.declared.named.ObjectName.TheVariants as object_name
 use Rattle.c_core.specs.declared.named.FunctionName.TheVariants as name
 use Rattle.c_core.specs.declared.operator.Operator.TheVariants as o

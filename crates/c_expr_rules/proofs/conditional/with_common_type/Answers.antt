@@ -1,6 +1,6 @@
 use Rattle.c_core.specs.Tree.{Core}
 use Rattle.c_conversions.specs.Parts.{Part}
-use Rattle.c_conversions.proofs.Keeping.{id_there, core_there, core_stays, part_stays, over}
+use Rattle.c_conversions.proofs.Keeping.{core_there, core_stays, part_stays, over}
 use Rattle.c_expr_rules.specs.Conditional.{chosen}
 use Rattle.c_expr_rules.proofs.conditional.with_common_type.Goals as goal
 
