@@ -16,9 +16,10 @@ with_right-requires-clause-right c = core_there c.in_ok-left.ensures c.args.oper
 
 pub returns : goal.returns
 returns c =
+    let made = c.in_ok-made.ensures in
     let left = c.in_ok-left.ensures in
     let of = type_stays left c.args.at.0 c.requires.of in
     let test = core_stays left c.args.test c.requires.test in
     let right = part_stays left c.args.operands.right c.requires.right in
     over (λ first (x : CType × Core × Part). with_right c.args.at.1 x.0 x.1 first x.2) left (λ i. (of i, test i, right i))
-    c.in_ok-made.ensures
+    made

@@ -15,8 +15,9 @@ chosen-requires-clause-right c = core_there c.in_ok-of.ensures c.args.operands.r
 
 pub returns : goal.returns
 returns c =
+    let made = c.in_ok-made.ensures in
     let of = c.in_ok-of.ensures in
     let test = core_stays of c.args.test c.requires.test in
     let left = part_stays of c.args.operands.left c.requires.left in
     let right = part_stays of c.args.operands.right c.requires.right in
-    over (λ type (x : Core × Part × Part). chosen c.args.pos type x.0 x.1 x.2) of (λ i. (test i, left i, right i)) c.in_ok-made.ensures
+    over (λ type (x : Core × Part × Part). chosen c.args.pos type x.0 x.1 x.2) of (λ i. (test i, left i, right i)) made

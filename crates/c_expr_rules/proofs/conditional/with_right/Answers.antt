@@ -15,9 +15,10 @@ choice-requires-clause-left c = core_there c.in_ok-right.ensures c.args.cores.1 
 
 pub returns : goal.returns
 returns c =
+    let made = c.in_ok-made.ensures in
     let right = c.in_ok-right.ensures in
     let of = type_stays right c.args.at.0 c.requires.of in
     let test = core_stays right c.args.cores.0 c.requires.test in
     let left = core_stays right c.args.cores.1 c.requires.left in
     over (λ other (x : CType × Core × Core). value (At x.0 c.args.at.1 (Cond x.1 x.2 other))) right (λ i. (of i, test i, left i))
-    c.in_ok-made.ensures
+    made
