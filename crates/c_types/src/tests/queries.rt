@@ -18,13 +18,9 @@ fn functions_are_compatible_without_the_qualifiers_of_parameters(
     let int = table.basic(Basic::Int);
     let constant = table.qualified(int, CONST)?;
     let plain = table.function(int, &[int], false)?;
-    let parameters = Vec::from_slice(table.alloc(), &[constant])?;
-    let other = table.function(int, &parameters, false)?;
+    let other = table.function(int, &[constant], false)?;
     assert!(rt; table.compatible(other, plain));
     assert!(rt; !table.compatible(int, constant));
-    assert!(rt; table.compatible_unqualified(int, constant));
-    let (to_int, to_constant) = (table.pointer(int)?, table.pointer(constant)?);
-    assert!(rt; !table.compatible_unqualified(to_int, to_constant));
     let composite = table.composite(other, plain)?;
     assert!(rt; matches!(table.shape(composite), Shape::Function(_)));
     Ok(())
