@@ -1,4 +1,8 @@
 //! Tests of the common types of integers, and of each conversion once, with memory.
+ghost use Rattle.std.specs.Prelude.{◌<◌};
+ghost use Rattle.c_types.specs.Types.{Types, count_of};
+ghost use Rattle.c_conversions.specs.Parts.{PartIn};
+
 use crate::converting::{assigned, converts, discarded, passed};
 use crate::kind::common;
 use crate::operand::{Category, Operand};
@@ -65,7 +69,9 @@ fn common_types_are_those_of_gcc_and_clang(rt: HostRuntime) -> Result<(), Fail> 
 
 const PLACE: Pos = Pos { line: 1, column: 1 };
 
-fn object(of: TypeId) -> Operand {
+fn object(of: TypeId) -> Operand
+    ensures { (types : Types) → of.0 < count_of types → PartIn types result }
+{
     Operand {
         category: Category::Lvalue(false),
         null: false,
@@ -78,16 +84,24 @@ fn object(of: TypeId) -> Operand {
 }
 
 #[test]
-fn an_array_becomes_a_pointer_that_is_stored_as_void(rt: HostRuntime) -> Result<(), Fail> {
+fn an_array_becomes_a_pointer_that_it_bounds(rt: HostRuntime) -> Result<(), Fail> {
     let mut types = TypeTable::new(rt.alloc())?;
     let int = types.basic(Basic::Int);
     let row = types.array(int, Some(3))?;
-    let void = types.basic(Basic::Void);
-    let to = types.pointer(void)?;
     let element = as_value(&mut types, object(row))?;
-    assert!(rt; converts(&types, to, &element));
-    let stored = assigned(&mut types, to, element)?;
-    assert!(rt; matches!(stored.node, CoreNode::Retype(_)));
+    assert!(rt; matches!(element.core.node, CoreNode::Narrow(12, _)));
+    Ok(())
+}
+
+#[test]
+fn a_truth_value_is_stored_as_an_int_and_discarded(rt: HostRuntime) -> Result<(), Fail> {
+    let mut types = TypeTable::new(rt.alloc())?;
+    let int = types.basic(Basic::Int);
+    let truth = types.basic(Basic::Bool);
+    let held = as_value(&mut types, object(truth))?;
+    assert!(rt; converts(&types, int, &held));
+    let stored = assigned(&mut types, int, held)?;
+    assert!(rt; matches!(stored.node, CoreNode::Convert(_, _)));
     let nothing = discarded(&types, stored)?;
     assert!(rt; matches!(nothing.node, CoreNode::Discard(_)));
     Ok(())
@@ -96,7 +110,8 @@ fn an_array_becomes_a_pointer_that_is_stored_as_void(rt: HostRuntime) -> Result<
 #[test]
 fn a_truth_value_is_passed_as_an_int(rt: HostRuntime) -> Result<(), Fail> {
     let mut types = TypeTable::new(rt.alloc())?;
-    let (int, truth) = (types.basic(Basic::Int), types.basic(Basic::Bool));
+    let int = types.basic(Basic::Int);
+    let truth = types.basic(Basic::Bool);
     let held = as_value(&mut types, object(truth))?;
     let argument = passed(&mut types, int, held)?;
     assert!(rt; matches!(argument.node, CoreNode::Convert(_, _)));
