@@ -14,3 +14,16 @@ mod Falling
 mod Counted
 mod ValidExamples
 mod EndLemmas
+mod Operands
+mod Standing
+mod CallValues
+mod ParameterSlots
+mod OwnFunctions
+mod CallsStand
+mod SlotObjects
+mod GivenKinds
+mod NextStands
+mod ActStands
+mod StepStands
+mod NeverSticks
+mod ProgressExamples

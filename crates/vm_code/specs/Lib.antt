@@ -16,3 +16,4 @@ pub mod Sound
 pub mod Ways
 pub mod Valid
 pub mod Bound
+pub mod Progress

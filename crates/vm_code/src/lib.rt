@@ -15,7 +15,7 @@ pub mod valid_code;
 pub use c_core::Form;
 pub use code::Code;
 pub use instr::Instr;
-pub use law::{bound_law, end_law};
+pub use law::{bound_law, end_law, progress_law};
 pub use parts::{CodeCalled, CodeFunction, CodeObject, Parameter};
 pub use run_defs::Seal;
 pub use sequence::Sequence;
