@@ -14,3 +14,9 @@ mod Falling
 mod Counted
 mod ValidExamples
 mod EndLemmas
+mod Telling
+mod ListedParts
+mod Arriving
+mod KindsAlike
+mod Passes
+mod Faults

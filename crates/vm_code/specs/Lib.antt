@@ -15,4 +15,8 @@ pub mod OperandKinds
 pub mod Sound
 pub mod Ways
 pub mod Valid
+pub mod Passing
+pub mod FirstFault
 pub mod Bound
+pub mod Listing
+pub mod Writing

@@ -1,6 +1,7 @@
 //! What holds of each run of the machine.
 ghost use Rattle.vm_code.specs.Bound.{RunsAreBounded};
 ghost use Rattle.vm_code.specs.OneEnd.{RunsHaveOneEnd};
+ghost use Rattle.vm_code.specs.FirstFault.{FaultsAreThere};
 
 /// A run has one end: its outcome, its state and the number of its instructions are functions of the library, the code,
 /// the budgets and the input.
@@ -12,4 +13,10 @@ pub fn end_law()
 /// that it takes, and of one pass more. So it is over each library, with any input and within any budgets.
 pub fn bound_law()
     ensures { RunsAreBounded }
+{}
+
+/// No instruction fails as long as ways agree exactly where none fails at all. So the first of the former is there
+/// exactly where code isn't valid.
+pub fn fault_law()
+    ensures { FaultsAreThere }
 {}
