@@ -27,3 +27,9 @@ mod ActStands
 mod StepStands
 mod NeverSticks
 mod ProgressExamples
+mod Telling
+mod ListedParts
+mod Arriving
+mod KindsAlike
+mod Passes
+mod Faults

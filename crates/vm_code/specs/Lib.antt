@@ -15,5 +15,9 @@ pub mod OperandKinds
 pub mod Sound
 pub mod Ways
 pub mod Valid
+pub mod Passing
+pub mod FirstFault
 pub mod Bound
 pub mod Progress
+pub mod Listing
+pub mod Writing

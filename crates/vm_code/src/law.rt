@@ -1,5 +1,6 @@
 //! What holds of each run of the machine.
 ghost use Rattle.vm_code.specs.Bound.{RunsAreBounded};
+ghost use Rattle.vm_code.specs.FirstFault.{FaultsAreThere};
 ghost use Rattle.vm_code.specs.OneEnd.{RunsHaveOneEnd};
 ghost use Rattle.vm_code.specs.Progress.{CallsNeverStick, RunsNeverStick};
 
@@ -21,4 +22,10 @@ pub fn bound_law()
 pub fn progress_law()
     ensures calls { CallsNeverStick }
     ensures runs { RunsNeverStick }
+{}
+
+/// No instruction fails as long as ways agree exactly where none fails at all. So the first of the former is there
+/// exactly where code isn't valid.
+pub fn fault_law()
+    ensures { FaultsAreThere }
 {}

@@ -5,8 +5,11 @@
 #![tactic(auto)]
 
 pub mod code;
+pub mod code_listing;
 pub mod instr;
+mod instr_text;
 mod law;
+mod line_parts;
 pub mod parts;
 pub mod reading;
 pub mod sequence;
@@ -14,8 +17,9 @@ pub mod valid_code;
 
 pub use c_core::Form;
 pub use code::Code;
+pub use code_listing::listing;
 pub use instr::Instr;
-pub use law::{bound_law, end_law, progress_law};
+pub use law::{bound_law, end_law, fault_law, progress_law};
 pub use parts::{CodeCalled, CodeFunction, CodeObject, Parameter};
 pub use run_defs::Seal;
 pub use sequence::Sequence;

@@ -5,6 +5,7 @@ ghost use Rattle.vm_code.specs.Contents.{function_at};
 use crate::code::Code;
 use crate::instr::Instr;
 use crate::parts::{CodeCalled, CodeFunction, CodeObject};
+use crate::sequence::Sequence;
 use critical_table::Pos;
 
 impl Code {
@@ -44,5 +45,40 @@ impl Code {
         ensures { option_copied result ≡ slice_get self.now.types index }
     {
         self.types.get(index as usize)
+    }
+
+    /// The instructions, each with its place in the unit.
+    pub(crate) fn instr_list(&self) -> &[(Instr, Pos)]
+        ensures { result.now ≡ self.now.instrs }
+    {
+        self.instrs.as_slice()
+    }
+
+    /// The functions of the unit.
+    pub(crate) fn function_list(&self) -> &[CodeFunction]
+        ensures { result.now ≡ self.now.functions }
+    {
+        self.functions.as_slice()
+    }
+
+    /// The static objects.
+    pub(crate) fn object_list(&self) -> &[CodeObject]
+        ensures { result.now ≡ self.now.objects }
+    {
+        self.objects.as_slice()
+    }
+
+    /// The texts.
+    pub(crate) fn text_list(&self) -> &[Sequence<u8>]
+        ensures { result.now ≡ self.now.texts }
+    {
+        self.texts.as_slice()
+    }
+
+    /// The called types.
+    pub(crate) fn called_list(&self) -> &[CodeCalled]
+        ensures { result.now ≡ self.now.types }
+    {
+        self.types.as_slice()
     }
 }

@@ -1,9 +1,12 @@
 //! Each call of `Code`, over codes that are built by hand.
 use super::*;
+use acc_io::MemSink;
 use acc_num::IntKind;
+use c_core::{Comparison, Operator, Relation, Scalar, Stride};
 use critical_table::Pos;
 use lib_defs::ArgKind;
-use object_store::Mark;
+use object_store::{By, Mark, Pointer};
+use std::alloc::{AllocError, Global};
 use std::test::Fail;
 
 const HERE: Pos = Pos { line: 1, column: 5 };
@@ -102,5 +105,193 @@ fn keeps_called_types(rt: HostRuntime) -> Result<(), Fail> {
 fn gives_a_sequence_back(rt: HostRuntime) -> Result<(), Fail> {
     let sequence = Sequence::new(Vec::from_slice(rt.alloc(), &[4, 2])?);
     assert_eq!(rt; sequence.into_vec().as_slice(), [4, 2].as_slice());
+    Ok(())
+}
+
+/// A code with each instruction and each part of a line; it need not be valid.
+fn every_line(alloc: Global) -> Result<Code, AllocError> {
+    let mut code = Code::new(alloc)?;
+    let place = Pointer {
+        object: 7,
+        offset: 4,
+        low: 0,
+        high: 12,
+    };
+    let instrs = [
+        Instr::Number(IntKind::I64, -9223372036854775808),
+        Instr::Pointer(place),
+        Instr::Slot(3),
+        Instr::Result,
+        Instr::Duplicate,
+        Instr::Drop,
+        Instr::Swap,
+        Instr::Over,
+        Instr::Reach(8, 4, By::Arrow),
+        Instr::Load(Scalar::Number(IntKind::Bool)),
+        Instr::Store(Scalar::Pointer),
+        Instr::Zero(16),
+        Instr::Pool(1),
+        Instr::Copy(24),
+        Instr::Make(0, 16777216),
+        Instr::Seal(2, 1, 5),
+        Instr::Kill(9),
+        Instr::Binary(Operator::ShiftLeft, IntKind::U8),
+        Instr::Negate(IntKind::I8),
+        Instr::Flip(IntKind::U16),
+        Instr::Convert(IntKind::I16),
+        Instr::Not,
+        Instr::Compare(Comparison::NotEqual),
+        Instr::IsNull,
+        Instr::Same,
+        Instr::Order(Relation::GreaterEqual),
+        Instr::Step(Stride {
+            size: 4,
+            back: true,
+        }),
+        Instr::Difference(2),
+        Instr::Member(6),
+        Instr::Narrow(3),
+        Instr::Jump(1),
+        Instr::IfZero(2),
+        Instr::Cases(1),
+        Instr::Pair(-1, 0),
+        Instr::Default(5),
+        Instr::Tick,
+        Instr::Call(2, 0),
+        Instr::Used,
+        Instr::Give,
+        Instr::Leave,
+    ];
+    for instr in instrs {
+        code.instr(instr, HERE)?;
+    }
+    Ok(code)
+}
+
+const INSTR_LINES: &str = "code
+i 0 num i64 -9223372036854775808
+i 1 ptr 7 4 0 12
+i 2 slot 3
+i 3 result
+i 4 dup
+i 5 drop
+i 6 swap
+i 7 over
+i 8 reach 8 4 arrow
+i 9 load bool
+i 10 store ptr
+i 11 zero 16
+i 12 pool 1
+i 13 copy 24
+i 14 make 0 16777216
+i 15 seal 2 1 5
+i 16 kill 9
+i 17 shl u8
+i 18 neg i8
+i 19 flip u16
+i 20 conv i16
+i 21 not
+i 22 cmp ne
+i 23 isnull
+i 24 same
+i 25 order ge
+i 26 step -4
+i 27 diff 2
+i 28 member 6
+i 29 narrow 3
+i 30 jump 1
+i 31 ifz 2
+i 32 cases 1
+i 33 pair -1 0
+i 34 default 5
+i 35 tick
+i 36 call 2 0
+i 37 used
+i 38 give
+i 39 leave
+";
+
+const OTHER_LINES: &str = "code
+i 0 leave
+f 1 main 0 4:u32 16:ptr 9:place
+s 0 3 plain 0a00ff
+s 1 2 literal 6100
+s 2 1 const 07
+s 3 3 members 0:1 1:1:clash 000102
+s 4 1 members 0:1:clash 00
+x 0 ab
+x 1
+t 0 nothing 2 ptr i32 2 charpointer int 3 54
+t 1 ptr 0 0
+";
+
+#[test]
+fn lists_each_instruction(rt: HostRuntime) -> Result<(), Fail> {
+    let code = every_line(rt.alloc())?;
+    let mut sink = MemSink::new(rt.alloc(), 4000, 64, Vec::new(rt.alloc()))?;
+    assert_eq!(rt; code.list(&mut sink).is_ok(), true);
+    assert_eq!(rt; sink.bytes(), INSTR_LINES.as_bytes());
+    Ok(())
+}
+
+fn seal(at: u32, len: u32, mark: Mark) -> Seal {
+    Seal { at, len, mark }
+}
+
+fn add_objects(code: &mut Code) -> Result<(), AllocError> {
+    code.object(&[10, 0, 255], &[])?;
+    code.object(b"a\0", &[seal(0, 2, Mark::Literal)])?;
+    code.object(&[7], &[seal(0, 1, Mark::Const)])?;
+    let members = [seal(0, 1, Mark::Const), seal(1, 1, Mark::Clash)];
+    code.object(&[0, 1, 2], &members)?;
+    code.object(&[0], &[seal(0, 1, Mark::Clash)])?;
+    Ok(())
+}
+
+fn every_part(alloc: Global) -> Result<Code, AllocError> {
+    let mut code = Code::new(alloc)?;
+    let int = Form::Number(IntKind::I32);
+    code.instr(Instr::Leave, HERE)?;
+    let parameters = [
+        Parameter {
+            size: 4,
+            form: Form::Number(IntKind::U32),
+        },
+        Parameter {
+            size: 16,
+            form: Form::Pointer,
+        },
+        Parameter {
+            size: 9,
+            form: Form::Place,
+        },
+    ];
+    code.function(b"main", 0, &parameters, int, 0)?;
+    add_objects(&mut code)?;
+    code.text(&[0xab])?;
+    code.text(b"")?;
+    let kinds = [ArgKind::CharPointer, ArgKind::Int];
+    code.called(&[3, 54], &[Form::Pointer, int], &kinds, Form::Nothing)?;
+    code.called(&[], &[], &[], Form::Pointer)?;
+    Ok(code)
+}
+
+#[test]
+fn lists_each_part(rt: HostRuntime) -> Result<(), Fail> {
+    let code = every_part(rt.alloc())?;
+    let mut sink = MemSink::new(rt.alloc(), 4000, 3, Vec::new(rt.alloc()))?;
+    assert_eq!(rt; code.list(&mut sink).is_ok(), true);
+    assert_eq!(rt; sink.bytes(), OTHER_LINES.as_bytes());
+    Ok(())
+}
+
+#[test]
+fn stops_where_a_write_fails(rt: HostRuntime) -> Result<(), Fail> {
+    let code = every_part(rt.alloc())?;
+    for room in [0, 7, 40, 150] {
+        let mut sink = MemSink::new(rt.alloc(), room, 1, Vec::new(rt.alloc()))?;
+        assert_eq!(rt; code.list(&mut sink).is_ok(), false);
+        assert_eq!(rt; sink.bytes(), &OTHER_LINES.as_bytes()[..room]);
+    }
     Ok(())
 }

@@ -38,6 +38,13 @@ impl ValidCode {
         ValidCode { code }
     }
 
+    /// What the code holds.
+    pub(crate) fn code(&self) -> &Code
+        ensures { result.now ≡ self.now }
+    {
+        &self.code
+    }
+
     /// The instruction with this number, from 0, and its place in the unit; `None` exactly where there is none.
     pub fn instr(&self, index: usize) -> Option<(Instr, Pos)>
         ensures { result ≡ slice_get self.now.instrs index }
