@@ -24,4 +24,9 @@ numbering_keeps = record {
   handler = λ row args w e. tt;
   call_flows = λ row args w. flows row w;
   resume_flows = λ rest value w. flows rest.row w;
+  variants = record {
+    waits = λ row rest. false;
+    call = λ row args w. tt;
+    resume = λ row rest value w waiting. tt;
+  };
 }
