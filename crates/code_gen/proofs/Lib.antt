@@ -16,6 +16,14 @@ pub mod LivingFunctions
 pub mod LivingHeld
 pub mod LivingLaw
 pub mod Lengths
+pub mod Going
+pub mod PlainParts
+pub mod PlainActs
+pub mod PlainPieces
+pub mod PlainChoices
+pub mod PlainUpdates
+pub mod PlainNodes
+pub mod PlainRuns
 pub mod StatementLengths
 pub mod Sizes
 pub mod Trees

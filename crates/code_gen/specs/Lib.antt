@@ -20,3 +20,4 @@ pub mod CallsMade
 pub mod UnitCode
 pub mod SizeLaw
 pub mod JournalLaw
+pub mod RunLaw

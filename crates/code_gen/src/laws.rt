@@ -2,6 +2,7 @@
 ghost use Rattle.code_gen.specs.JournalLaw.{EachJournalIsLawful};
 ghost use Rattle.code_gen.specs.Law.{EachJournalEnds};
 ghost use Rattle.code_gen.specs.Lifetimes.{AutomaticObjectsAreAStack};
+ghost use Rattle.code_gen.specs.RunLaw.{EachPlainExpressionRuns};
 ghost use Rattle.code_gen.specs.SizeLaw.{AllSizesAreLengths};
 
 /// The last event of each run is its end, and tells its outcome.
@@ -9,8 +10,8 @@ pub fn end_law()
     ensures { EachJournalEnds }
 {}
 
-/// The journal of each run is lawful: of each well-typed unit, over every library that keeps its laws, for each input
-/// and all budgets. Whoever replays it, knowing nothing of C, finds each store in a live object and on bytes without a
+/// The journal of each run is lawful: of each well-typed unit, over every library that keeps its laws, for each input of
+/// bytes and all budgets of at most 2,000,000,000 ticks. Whoever replays it, knowing nothing of C, finds each store in a live object and on bytes without a
 /// mark, each trap to be the case of its access, and each violated runtime-constraint with its action, its one call of
 /// the current handler and its failure value.
 pub fn journal_law()
@@ -28,4 +29,11 @@ pub fn size_law()
 /// were to do, never matter. It holds of each well-typed unit over every library that keeps its laws.
 pub fn lifetime_law()
     ensures { AutomaticObjectsAreAStack }
+{}
+
+/// The machine does what an expression means: where the code of the expression stands, the run comes behind it with the
+/// value on the operands, in the state that the meaning gives, or ends as the meaning stops; with the same output,
+/// journal and ticks. So far of each well-typed expression without calls and value objects.
+pub fn run_law()
+    ensures { EachPlainExpressionRuns }
 {}
