@@ -20,3 +20,4 @@ mod Arriving
 mod KindsAlike
 mod Passes
 mod Faults
+mod Blame

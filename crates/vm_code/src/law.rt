@@ -1,7 +1,7 @@
 //! What holds of each run of the machine.
 ghost use Rattle.vm_code.specs.Bound.{RunsAreBounded};
 ghost use Rattle.vm_code.specs.OneEnd.{RunsHaveOneEnd};
-ghost use Rattle.vm_code.specs.FirstFault.{FaultsAreThere};
+ghost use Rattle.vm_code.specs.FirstFault.{BlameIsFair};
 
 /// A run has one end: its outcome, its state and the number of its instructions are functions of the library, the code,
 /// the budgets and the input.
@@ -15,8 +15,7 @@ pub fn bound_law()
     ensures { RunsAreBounded }
 {}
 
-/// No instruction fails as long as ways agree exactly where none fails at all. So the first of the former is there
-/// exactly where code isn't valid.
-pub fn fault_law()
-    ensures { FaultsAreThere }
+/// At most one instruction of code is blamed, and none exactly where the code is valid.
+pub fn blame_law()
+    ensures { BlameIsFair }
 {}

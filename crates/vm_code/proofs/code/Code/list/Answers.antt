@@ -1,5 +1,5 @@
 -- List by list.
-use Rattle.std.proofs.Common.{codes, length, ap}
+use Rattle.std.proofs.Common.{ap}
 use Rattle.std.proofs.lemmas.Result.{err_from_is_err_and}
 use Rattle.vm_code.specs.Listing.{lines, instr_line, function_line, object_line, text_line, called_line}
 use Rattle.vm_code.proofs.Telling.{told_both, told_part, told_on, told_same}

@@ -1,5 +1,5 @@
 -- Part by part.
-use Rattle.std.proofs.Common.{codes, length}
+use Rattle.std.proofs.Common.{codes}
 use Rattle.std.proofs.lemmas.Result.{err_from_is_err_and}
 use Rattle.vm_code.specs.Listing.{number_text, bytes_text}
 use Rattle.vm_code.proofs.Telling.{told_both, told_part, told_on}
