@@ -22,7 +22,7 @@ use Rattle.code_gen.proofs.Trees.{add, address, at, binary, block, call, call_un
 use Rattle.code_gen.proofs.Trees.{eval, eval_void, function, get, gives_int, global, holds, if_then, init, int, local}
 use Rattle.code_gen.proofs.Trees.{main, main_at, nothing, null_of, num, return, retype, row_function, set, slot, to}
 use Rattle.code_gen.proofs.Trees.{unit_function, unit_of}
-use Rattle.code_gen.proofs.Runs.{called, const_marks, ends, gave, made, outcomes, pointer, runs, says, static, stored}
+use Rattle.code_gen.proofs.Runs.{called, const_marks, gave, made, pointer, runs, says, static, stored}
 use Rattle.code_gen.proofs.Runs.{undefined, unreached, words}
 use Rattle.library_types.specs.LibraryTypes.{row_type}
 
@@ -190,9 +190,11 @@ factorial = definition 5 (codes "f") of_int (holds int ∷ []) gives_int (block 
     (call 26 int (unit_function of_int 5) (binary o.Subtract 28 (get (local 27 int 0)) (num 1) ∷ [])))
     (num 1))) ∷ []))
 
-factorial_runs : outcomes (runs (unit_of (factorial
-    ∷ main_at 39 [] (return (call 56 int (unit_function of_int 5) (num 4 ∷ [])) ∷ []) ∷ []) []) 20 2000)
-    ≡ ends (Exited 24)
+-- a parameter for each of 4, 3, 2, 1 and 0; the last dies first
+factorial_runs : runs (unit_of (factorial
+    ∷ main_at 39 [] (return (call 56 int (unit_function of_int 5) (num 4 ∷ [])) ∷ []) ∷ []) []) 20 2000
+    ≡ says (Exited 24) [] (made 4 4 ∷ stored 4 0 4 ∷ made 6 4 ∷ stored 6 0 4 ∷ made 8 4 ∷ stored 8 0 4
+    ∷ made 10 4 ∷ stored 10 0 4 ∷ made 12 4 ∷ stored 12 0 4 ∷ Died 12 ∷ Died 10 ∷ Died 8 ∷ Died 6 ∷ Died 4 ∷ []) 11
 unfolding words
 factorial_runs = refl
 

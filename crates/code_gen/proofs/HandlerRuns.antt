@@ -1,5 +1,5 @@
 -- Runs with violated runtime-constraints: handlers of the library and of the unit, which call the library again.
-use Rattle.std.proofs.Common.{List, None, Some, [], refl, ℕ, ◌++◌, ◌∷◌, ◌≡◌}
+use Rattle.std.proofs.Common.{List, None, Some, [], refl, ℕ, zero, suc, ◌+◌, ◌++◌, ◌∷◌, ◌≡◌}
 use Rattle.std.specs.Prelude.{codes, pos}
 use Rattle.critical_table.specs.declared.case.Case.TheVariants.{L11, L3, L9}
 use Rattle.object_store.specs.declared.by.By.TheVariants.{Star}
@@ -20,7 +20,7 @@ use Rattle.code_gen.proofs.Trees.{add, at, binary, block, call, call_unused, cal
 use Rattle.code_gen.proofs.Trees.{convert, decay, definition, eval, eval_void, function, get, global, holds, if_then}
 use Rattle.code_gen.proofs.Trees.{index, int, literal, local, main_at, nothing, null_of, num, return, retype}
 use Rattle.code_gen.proofs.Trees.{row_function, set, size_t, to, unit_function, unit_of}
-use Rattle.code_gen.proofs.Runs.{called, ends, gave, heap, literal_marks, made, outcomes, pointer, runs, says, static}
+use Rattle.code_gen.proofs.Runs.{called, gave, heap, literal_marks, made, pointer, runs, says, static}
 use Rattle.code_gen.proofs.Runs.{stored, tells, unreached, words}
 use Rattle.library_types.specs.LibraryTypes.{handler_type, row_type}
 
@@ -143,9 +143,11 @@ no_handler = refl
 abbrev returning : Program
 returning = violating 44 72 82 87 (h_at 6) (handler_at 6 [] ∷ [])
 
-handler_returns : runs returning 10 1000 ≡ says (Exited 0) []
-    (literal_made 4 ++ handler_set (codes "h") abort_name ++ violated 4 ++ enters_h 6 8 10 ++ leaves_h 6 8 10
-    ++ failed) 7
+abbrev returning_events : List Event
+returning_events = literal_made 4 ++ handler_set (codes "h") abort_name ++ violated 4 ++ enters_h 6 8 10
+    ++ leaves_h 6 8 10 ++ failed
+
+handler_returns : runs returning 10 1000 ≡ says (Exited 0) [] returning_events 7
 unfolding words
 handler_returns = refl
 
@@ -162,11 +164,14 @@ unfolding words
 call_short = refl
 
 -- 2 bytes of the literal, 256 of main and 256 of the handler, and its 36
-handler_bytes : outcomes (runs returning 10 550) ≡ ends (Exited 0)
+handler_bytes : runs returning 10 550 ≡ says (Exited 0) [] returning_events 7
 unfolding words
 handler_bytes = refl
 
-handler_byte_short : outcomes (runs returning 10 549) ≡ ends OutOfBytes
+-- the tick of the third parameter is taken
+handler_byte_short : runs returning 10 549 ≡ says OutOfBytes []
+    (literal_made 4 ++ handler_set (codes "h") abort_name ++ violated 4
+    ++ HandlerCalled (codes "h") ∷ made 6 16 ∷ stored 6 0 16 ∷ made 8 16 ∷ stored 8 0 16 ∷ []) 7
 unfolding words
 handler_byte_short = refl
 
@@ -214,7 +219,15 @@ deep_ticks : runs deep 13 5000 ≡ says OutOfTicks []
 unfolding words
 deep_ticks = refl
 
-deep_ends : outcomes (runs deep 100 30000) ≡ ends OutOfTicks
+-- so many handlers, each with the parameters from a number on, and the next violation in it
+abbrev depths : ℕ → ℕ → List Event
+depths zero first = []
+depths (suc n) first = enters_h first (first + 2) (first + 4) ++ violated 4 ++ depths n (first + 6)
+
+-- 2 ticks, and 5 for each of 19 calls; then those of the next call, its handler and the first parameter
+deep_ends : runs deep 100 30000 ≡ says OutOfTicks []
+    (literal_made 4 ++ literal_made 6 ++ handler_set (codes "h") abort_name ++ violated 6 ++ depths 19 8
+    ++ HandlerCalled (codes "h") ∷ made 122 16 ∷ stored 122 0 16 ∷ []) 100
 unfolding words
 deep_ends = refl
 
@@ -253,7 +266,8 @@ exits = refl
 
 -- ---- a violation in the handler of a violation
 
--- char d[8];int n;void h(const char*m,void*o,errno_t e){puts(d);n=n+1;if(n<3){strcpy_s(d,2,"long");}putchar('0'+n);}
+-- char d[8];int n;void h(const char*m,void*o,errno_t e){printf("in %d [%s]\n",n,d);n=n+1;
+-- if(n<3){strcpy_s(d,2,"long");}printf("out %d\n",n);}
 -- int main(void){set_constraint_handler_s(h);d[0]='x';strcpy_s(d,2,"long");return 0;}, on one line
 abbrev eight : CType
 eight = Array char (Some 8)
@@ -268,35 +282,44 @@ abbrev copies_long : ℕ → ℕ → Statement
 copies_long column token = eval_void (call_unused column int (row n.StrcpyS 5)
     (place_d ∷ constant size_t 2 ∷ text token 5 ∷ []))
 
+abbrev prints : ℕ → List Core → Statement
+prints column arguments = eval_void (call_unused column int (row n.Printf 52) arguments)
+
 abbrev nesting : Program
 nesting = unit_of (handler_at 22
-    (eval_void (call_unused 59 int (row n.Puts 50) (place_d ∷ []))
-    ∷ eval (set 64 count (add 66 (get count) (num 1)))
-    ∷ if_then (compare c.Less 73 (get count) (num 3)) (block [] (copies_long 85 90 ∷ []))
-    ∷ eval_void (call_unused 106 int (row n.Putchar 49) (add 110 (num 48) (get count) ∷ [])) ∷ [])
-    ∷ main_at 119 [] (set_handler 154 (h_at 22) ∷ eval (set 162 (index 158 place_d (num 0)) (constant char 120))
-    ∷ copies_long 175 180 ∷ return (num 0) ∷ []) ∷ [])
+    (prints 61 (text 62 12 ∷ get count ∷ place_d ∷ [])
+    ∷ eval (set 83 count (add 85 (get count) (num 1)))
+    ∷ if_then (compare c.Less 92 (get count) (num 3)) (block [] (copies_long 104 109 ∷ []))
+    ∷ prints 124 (text 125 8 ∷ get count ∷ []) ∷ [])
+    ∷ main_at 144 [] (set_handler 179 (h_at 22) ∷ eval (set 187 (index 184 place_d (num 0)) (constant char 120))
+    ∷ copies_long 200 205 ∷ return (num 0) ∷ []) ∷ [])
     (record { token = at 6; size = 8; items = []; seals = [] }
     ∷ record { token = at 15; size = 4; items = []; seals = [] }
-    ∷ text_at 90 (codes "long") 5 ∷ text_at 180 (codes "long") 5 ∷ [])
+    ∷ text_at 62 (codes "in %d [%s]\n") 12 ∷ text_at 109 (codes "long") 5 ∷ text_at 125 (codes "out %d\n") 8
+    ∷ text_at 205 (codes "long") 5 ∷ [])
 
 -- one handler's call, and in the first two another call of strcpy_s
 abbrev long_violated : ℕ → List Event
 long_violated object = called 5 (Place 4 0 ∷ Number (pos 2) ∷ Place object 0 ∷ [])
     ∷ Violated (record { 0 = 5 }) 5 ∷ stored 4 0 1 ∷ []
 
+-- printf writes 8 bytes, and 6
 abbrev h_begins : ℕ → ℕ → ℕ → List Event
-h_begins m o e = enters_h m o e ++ called 50 [] ∷ gave 50 (Number (pos 0)) ∷ stored 6 0 4 ∷ []
+h_begins m o e = enters_h m o e ++ called 52 [] ∷ gave 52 (Number (pos 8)) ∷ stored 6 0 4 ∷ []
 
 abbrev h_ends : ℕ → ℕ → ℕ → List Event
-h_ends m o e = called 49 [] ∷ gave 49 (Number (pos 51)) ∷ leaves_h m o e ++ gave 5 (Number (pos 34)) ∷ []
+h_ends m o e = called 52 [] ∷ gave 52 (Number (pos 6)) ∷ leaves_h m o e ++ gave 5 (Number (pos 34)) ∷ []
 
-nesting_runs : runs nesting 100 5000 ≡ says (Exited 0) (codes "\n\n\n333")
-    (static 4 8 ∷ static 6 4 ∷ static 8 5 ∷ literal_marks 8 5 ∷ static 10 5 ∷ literal_marks 10 5
-    ∷ (handler_set (codes "h") abort_name ++ stored 4 0 1
-    ∷ long_violated 10 ++ h_begins 12 14 16
-    ++ long_violated 8 ++ h_begins 18 20 22
-    ++ long_violated 8 ++ h_begins 24 26 28
-    ++ h_ends 24 26 28 ++ h_ends 18 20 22 ++ h_ends 12 14 16)) 23
+abbrev long_text : ℕ → ℕ → List Event
+long_text object size = static object size ∷ literal_marks object size ∷ []
+
+-- ticks: main 1, calls of the library 10, of the handler 3, its parameters 9
+nesting_runs : runs nesting 100 5000 ≡ says (Exited 0) (codes "in 0 []\nin 1 []\nin 2 []\nout 3\nout 3\nout 3\n")
+    (static 4 8 ∷ static 6 4 ∷ (long_text 8 12 ++ long_text 10 5 ++ long_text 12 8 ++ long_text 14 5
+    ++ handler_set (codes "h") abort_name ++ stored 4 0 1
+    ∷ long_violated 14 ++ h_begins 16 18 20
+    ++ long_violated 10 ++ h_begins 22 24 26
+    ++ long_violated 10 ++ h_begins 28 30 32
+    ++ h_ends 28 30 32 ++ h_ends 22 24 26 ++ h_ends 16 18 20)) 23
 unfolding words
 nesting_runs = refl

@@ -78,7 +78,7 @@ module _ (e : Environment) (calls : List OpenCall) where
       at_left e _ calls (at_all_died e calls (numbers held) s3 a3))))
 
 -- a function of the unit is well-typed
-abbrev NamedTyped : List Pos → List Pos → Option Named → Type 0
+abbrev pub NamedTyped : List Pos → List Pos → Option Named → Type 0
 NamedTyped functions statics (Some (UnitFunction f)) = DefinitionTyped functions statics f
 NamedTyped functions statics other = Unit {0}
 
@@ -162,7 +162,7 @@ module _ (library : Library) (laws : KeepsLaws library) (program : Program)
   entered_found enter kept (Some (UnitFunction f)) t number args result here calls s a =
       activation_keeps e calls program _ (calls_keep enter kept calls) _ _ f t args result here s a
 
-  numbered_typed : (number : ℕ) → NamedTyped (tokens_of program.functions) (static_tokens program.statics)
+  pub numbered_typed : (number : ℕ) → NamedTyped (tokens_of program.functions) (static_tokens program.statics)
       (function_numbered program.functions number)
   numbered_typed zero = tt
   numbered_typed (suc k) = unit_typed _ _ program.functions typed k _

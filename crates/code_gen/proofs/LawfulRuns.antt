@@ -58,7 +58,7 @@ items_long program fs ss size (item ∷ rest) t bytes long = items_long program 
     (with_item_long item.at (item_bytes program item.value) bytes
     (omega (arith, t.1, item_long program item.value, long)) ∙ long)
 
-static_long : (program : Program) (fs : List Pos) (ss : List Static) (static : Static) → StaticTyped fs ss static
+pub static_long : (program : Program) (fs : List Pos) (ss : List Static) (static : Static) → StaticTyped fs ss static
     → length (static_bytes program static) ≡ static.size
 static_long program fs ss static t =
     items_long program fs ss static.size static.items t.items (replicate static.size 0) (length-replicate static.size 0)

@@ -5,6 +5,16 @@ pub mod KeptStatements
 pub mod KeptCalls
 pub mod LawfulRuns
 mod LawfulUnit
+pub mod Living
+pub mod LivingOn
+pub mod LivingSteps
+pub mod LivingParts
+pub mod LivingExpressions
+pub mod LivingStatements
+pub mod LivingCalls
+pub mod LivingFunctions
+pub mod LivingHeld
+pub mod LivingLaw
 pub mod Lengths
 pub mod StatementLengths
 pub mod Sizes

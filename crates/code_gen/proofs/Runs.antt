@@ -1,7 +1,6 @@
 -- What is said of the runs of examples: what a unit means, and that the machine does this with its code.
 use Rattle.std.specs.Prelude.{ℕ, ◌++◌, List, [], ◌∷◌, Option, Some, None}
 use Rattle.std.specs.Fmt.{digits}
-use Rattle.std.specs.Option.{option_map}
 use Rattle.acc_num.specs.Numbers.{value_of}
 use Rattle.acc_num.specs.Operations.{power_of_two, converted_to}
 use Rattle.critical_table.specs.declared.case.Case.{Case}
@@ -79,13 +78,6 @@ both m = (m, Some m)
 -- how a run ends, its output, the events between, and the ticks that it takes; nothing on the error output
 abbrev pub says : Outcome → List ℕ → List Event → ℕ → Meaning × Option Meaning
 says outcome output events ticks = both (meant outcome output [] events ticks)
-
--- how both end
-abbrev pub outcomes : Meaning × Option Meaning → Outcome × Option Outcome
-outcomes x = (x.0.outcome, option_map (λ (m : Meaning). m.outcome) x.1)
-
-abbrev pub ends : Outcome → Outcome × Option Outcome
-ends outcome = (outcome, Some outcome)
 
 -- the same with an error output
 abbrev pub tells : Outcome → (output err : List ℕ) → List Event → ℕ → Meaning × Option Meaning

@@ -1,4 +1,4 @@
--- Runs with structures: assigned, passed, returned; value objects and their deaths.
+-- Runs with structures: assigned, passing_events, returned; value objects and their deaths.
 use Rattle.std.specs.Prelude.{codes}
 use Rattle.std.proofs.Common.{List, Some, [], false, refl, ℕ, ◌++◌, ◌∷◌, ◌≡◌}
 use Rattle.critical_table.specs.declared.code.Code.TheVariants.{U04, U05, U10}
@@ -18,7 +18,7 @@ use Rattle.code_gen.proofs.Trees.{add, at, binary, block, by_value, call, call_g
 use Rattle.code_gen.proofs.Trees.{deref, discard, does, eval, eval_void, function, get, gives_int, holds, init_at}
 use Rattle.code_gen.proofs.Trees.{init_whole, int, local, main, main_at, member, nothing, null_of, num, pair, return}
 use Rattle.code_gen.proofs.Trees.{retype, set, set_whole, slot, step, to, unit_function, unit_of}
-use Rattle.code_gen.proofs.Runs.{ends, made, outcomes, pointer, runs, says, stored, undefined, unreached, words}
+use Rattle.code_gen.proofs.Runs.{made, pointer, runs, says, stored, undefined, unreached, words}
 
 -- struct s{int a,b;}; each unit has `v` in slot 0, with 1 and 2
 abbrev v : Core
@@ -87,7 +87,7 @@ source_unreached : runs (overlapping 2) 10 1000 ≡ says (Trapped L6 (at 38)) []
 unfolding words
 source_unreached = refl
 
--- ---- passed: int f(struct s p){p.a=p.a+p.b;return p.a;} int main(void){struct s v={1,2};return f(v)*10+v.a;}
+-- ---- passing_events: int f(struct s p){p.a=p.a+p.b;return p.a;} int main(void){struct s v={1,2};return f(v)*10+v.a;}
 
 abbrev takes_pair : CType
 takes_pair = function int (pair ∷ [])
@@ -108,14 +108,16 @@ passing = unit_of (f ∷ main_at 50 (slot pair 0 ∷ []) (set_up ++
     (call 80 int (unit_function takes_pair 5) (by_value v ∷ [])) (num 10)) (member_a 92 v)) ∷ []) ∷ []) []
 
 -- the value object 6, then the parameter 8; v stays as it was; the value object dies with the full expression
-passing_runs : runs passing 10 1000 ≡ says (Exited 31) []
-    (made 4 8 ∷ stored 4 0 8 ∷ stored 4 0 4 ∷ stored 4 4 4
-    ∷ made 6 8 ∷ stored 6 0 8 ∷ made 8 8 ∷ stored 8 0 8 ∷ stored 8 0 4 ∷ Died 8 ∷ Died 6 ∷ Died 4 ∷ []) 5
+abbrev passing_events : List Event
+passing_events = made 4 8 ∷ stored 4 0 8 ∷ stored 4 0 4 ∷ stored 4 4 4
+    ∷ made 6 8 ∷ stored 6 0 8 ∷ made 8 8 ∷ stored 8 0 8 ∷ stored 8 0 4 ∷ Died 8 ∷ Died 6 ∷ Died 4 ∷ []
+
+passing_runs : runs passing 10 1000 ≡ says (Exited 31) [] passing_events 5
 unfolding words
 passing_runs = refl
 
 -- live bytes at the deepest: main and f 512, v, value object and parameter 24
-passing_exactly : outcomes (runs passing 10 536) ≡ ends (Exited 31)
+passing_exactly : runs passing 10 536 ≡ says (Exited 31) [] passing_events 5
 unfolding words
 passing_exactly = refl
 

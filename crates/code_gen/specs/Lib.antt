@@ -12,6 +12,7 @@ pub mod Calls
 pub mod StaticContents
 pub mod Meaning
 pub mod Law
+pub mod Lifetimes
 pub mod CalledTypes
 pub mod ExpressionCode
 pub mod StatementCode

@@ -1,6 +1,7 @@
 //! What holds of each meaning, and of the code of each unit.
 ghost use Rattle.code_gen.specs.JournalLaw.{EachJournalIsLawful};
 ghost use Rattle.code_gen.specs.Law.{EachJournalEnds};
+ghost use Rattle.code_gen.specs.Lifetimes.{AutomaticObjectsAreAStack};
 ghost use Rattle.code_gen.specs.SizeLaw.{AllSizesAreLengths};
 
 /// The last event of each run is its end, and tells its outcome.
@@ -20,4 +21,11 @@ pub fn journal_law()
 /// their code.
 pub fn size_law()
     ensures { AllSizesAreLengths }
+{}
+
+/// Automatic objects are a stack: the last that was made is the first that dies. So each lives until its turn comes,
+/// and the mark of a const object is set on one that lives: the tests of both, by which the meaning goes on as if nothing
+/// were to do, never matter. It holds of each well-typed unit over every library that keeps its laws.
+pub fn lifetime_law()
+    ensures { AutomaticObjectsAreAStack }
 {}

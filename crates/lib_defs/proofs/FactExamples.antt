@@ -127,3 +127,29 @@ line_shows = refl
 
 line_shows_none : line_values (row 17) (Ptr (at 4 1 8) ∷ Num (pos 3) ∷ []) ≡ []
 line_shows_none = refl
+
+-- of the other rows too: all but what looks into the store
+move_decides : line_decisions (row 2) (Place 4 1 ∷ Number (pos 3) ∷ Place 4 0 ∷ Number (pos 4) ∷ [])
+    ≡ Some true ∷ Some true ∷ Some true ∷ Some true ∷ Some false ∷ []
+move_decides = refl
+
+set_decides : line_decisions (row 4) (Place 4 0 ∷ Number (pos 3) ∷ Number (pos 7) ∷ Number (pos 4) ∷ [])
+    ≡ Some true ∷ Some true ∷ Some true ∷ Some false ∷ []
+set_decides = refl
+
+part_copy_decides : line_decisions (row 7) (Place 4 0 ∷ Number (pos 0) ∷ Place 6 0 ∷ Number (pos 1) ∷ [])
+    ≡ Some true ∷ Some true ∷ Some true ∷ Some true ∷ Some false ∷ None ∷ None ∷ []
+part_copy_decides = refl
+
+append_decides : line_decisions (row 9) (Place 4 0 ∷ Number (pos 1) ∷ Place 6 0 ∷ [])
+    ≡ Some true ∷ Some true ∷ Some true ∷ Some true ∷ None ∷ None ∷ None ∷ []
+append_decides = refl
+
+part_append_decides
+    : line_decisions (row 11) (Place 4 0 ∷ Number (pos 1) ∷ Place 6 0 ∷ Number (pos 16777217) ∷ [])
+    ≡ Some true ∷ Some true ∷ Some true ∷ Some false ∷ Some true ∷ None ∷ None ∷ None ∷ []
+part_append_decides = refl
+
+error_decides : line_decisions (row 15) (Place 4 0 ∷ Number (pos 0) ∷ Number (pos 22) ∷ [])
+    ≡ Some true ∷ Some true ∷ Some false ∷ []
+error_decides = refl

@@ -29,6 +29,7 @@ pub mod PrintLaws
 pub mod PlainCalls
 pub mod AllocationLaws
 pub mod StreamLaws
+pub mod Variants
 pub mod ProfileLaws
 pub mod SampleLaws
 pub mod Messages

@@ -141,3 +141,44 @@ set_long = refl
 set_null : run_rule (fill_row null 4 7 4) two ≡ Broken 1 NullPointer None (Num (pos 22))
 unfolding reach_table
 set_null = refl
+
+-- the action of a wide row counts in units
+wide_copy_long : run_rule (copy_row 4 d 1 s 2) two
+    ≡ Broken 5 DoesNotFit (Some (record { place = d; len = 4; byte = 0 })) (Num (pos 34))
+unfolding reach_table
+wide_copy_long = refl
+
+-- memmove_s has the constraints of memcpy_s but the last
+move_to_null : run_rule (move_row 1 null 4 null 4) two ≡ Broken 1 NullPointer None (Num (pos 22))
+move_to_null = refl
+
+move_from_null : run_rule (move_row 1 d 4 null 4) two
+    ≡ Broken 2 NullPointer (Some (record { place = d; len = 4; byte = 0 })) (Num (pos 22))
+unfolding reach_table
+move_from_null = refl
+
+move_max_above : run_rule (move_row 1 d 16777217 s 16777217) two ≡ Broken 3 SizeAbove None (Num (pos 34))
+move_max_above = refl
+
+move_size_above : run_rule (move_row 1 d 4 s 16777217) two
+    ≡ Broken 4 SizeAbove (Some (record { place = d; len = 4; byte = 0 })) (Num (pos 34))
+unfolding reach_table
+move_size_above = refl
+
+move_long : run_rule (move_row 1 d 4 s 5) two
+    ≡ Broken 5 DoesNotFit (Some (record { place = d; len = 4; byte = 0 })) (Num (pos 34))
+unfolding reach_table
+move_long = refl
+
+-- memset_s(d, 4, 7, 0) stores nothing; sizes above RSIZE_MAX
+set_none : run_rule (fill_row d 4 7 0) two ≡ done_with (record { place = d; bytes = [] } ∷ []) (Num (pos 0))
+unfolding reach_table
+set_none = refl
+
+set_max_above : run_rule (fill_row d 16777217 7 4) two ≡ Broken 2 SizeAbove None (Num (pos 34))
+set_max_above = refl
+
+set_size_above : run_rule (fill_row d 4 7 16777217) two
+    ≡ Broken 3 SizeAbove (Some (record { place = d; len = 4; byte = 7 })) (Num (pos 34))
+unfolding reach_table
+set_size_above = refl

@@ -10,7 +10,8 @@ use Rattle.object_store.specs.Reach.{reach_table}
 use Rattle.lib_defs.specs.declared.handler.Handler.{Handler}
 use Rattle.lib_defs.specs.declared.step.LibStep.TheVariants as step
 use Rattle.lib_defs.specs.declared.value.Value.TheVariants.{Num, Ptr}
-use Rattle.lib_defs.specs.declared.violation.Violation.TheVariants.{SizeAbove, SizeZero, DoesNotFit, SizeNotZero}
+use Rattle.lib_defs.specs.declared.violation.Violation.TheVariants.{NullPointer, SizeAbove, SizeZero}
+use Rattle.lib_defs.specs.declared.violation.Violation.TheVariants.{DoesNotFit, SizeNotZero}
 use Rattle.lib_defs.specs.Reply.{Broken, Fails, FailsReach, null}
 use Rattle.lib_defs.specs.Handlers.{set_step, set_handler_after}
 use Rattle.lib_defs.specs.Rules.{done_with, run_rule}
@@ -145,3 +146,43 @@ sets_fallback = refl
 
 refuses : set_step handler (function 4199999999) ≡ step.Trap L9 (function 4199999999) 0 0 OtherRead
 refuses = refl
+
+-- strerror_s with a null pointer, and with a size above RSIZE_MAX
+text_null : run_rule (error_text_row null 0 (pos 22)) three ≡ Broken 1 NullPointer None (Num (pos 22))
+text_null = refl
+
+text_above : run_rule (error_text_row s 16777217 (pos 22)) three ≡ Broken 2 SizeAbove None (Num (pos 34))
+text_above = refl
+
+-- the other texts
+lengths : run_rule (error_length_row (pos 0)) three ≡ done_with [] (Num (pos 8))
+lengths = refl
+
+length_of_range : run_rule (error_length_row (pos 34)) three ≡ done_with [] (Num (pos 19))
+length_of_range = refl
+
+length_of_others : run_rule (error_length_row (pos 1)) three ≡ done_with [] (Num (pos 13))
+length_of_others = refl
+
+-- wctomb_s: a negative wide character has no byte; a null s has no size above RSIZE_MAX, but one that is not zero
+negative : run_rule (wide_char_row t c 1 (negsuc 0)) three
+    ≡ done_with (record { place = t; bytes = known (255 ∷ 255 ∷ 255 ∷ 255 ∷ []) } ∷ []) (Num (pos 84))
+unfolding reach_table
+negative = refl
+
+room_greatest : run_rule (wide_char_row t c 16777216 (pos 0)) three
+    ≡ done_with (record { place = c; bytes = Some 0 ∷ [] } ∷ record {
+      place = t;
+      bytes = known (1 ∷ 0 ∷ 0 ∷ 0 ∷ []);
+    } ∷ []) (Num (pos 0))
+unfolding reach_table
+room_greatest = refl
+
+null_above : run_rule (wide_char_row t null 16777217 (pos 65)) three ≡ Broken 3 SizeNotZero None (Num (pos 34))
+null_above = refl
+
+-- s is reached before the status
+no_place : run_rule (wide_char_row null (at 8 1 1) 1 (pos 65)) three
+    ≡ Fails (FailsReach L9 (at 8 1 1) 1 1 OtherWrite)
+unfolding reach_table
+no_place = refl

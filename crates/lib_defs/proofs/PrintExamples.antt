@@ -222,3 +222,58 @@ print_open = refl
 print_inside : printed three (stops (codes "a%+5") (FailsReach L9 c 1 1 OtherRead)) []
     ≡ stops (codes "a") (FailsReach L9 c 1 1 OtherRead)
 print_inside = refl
+
+-- `+` has no effect on the others
+print_plus_others : print (codes "%+x %+o %+c %+s") (uint 10 ∷ uint 8 ∷ int (pos 65) ∷ string s ∷ [])
+    ≡ text (codes "a 10 A abc")
+unfolding reach_table digits
+print_plus_others = refl
+
+-- a 0 behind another digit is one of the width
+print_ten : print (codes "%010d|%-10d|") (int (pos 7) ∷ int (pos 7) ∷ []) ≡ text (codes "0000000007|7         |")
+unfolding digits
+print_ten = refl
+
+-- the greatest precision
+print_most : print (codes "%.4095s") (string s ∷ []) ≡ text (codes "abc")
+unfolding reach_table
+print_most = refl
+
+-- the kind has to be that of the modifier
+print_int_long : print (codes "%d") (number kind.Long (pos 1) ∷ []) ≡ stops [] (FailsArgument 2)
+print_int_long = refl
+
+print_size_long_long : print (codes "%zd") (number kind.LongLong (pos 1) ∷ []) ≡ stops [] (FailsArgument 2)
+print_size_long_long = refl
+
+print_long_negative : print (codes "%lu") (number kind.Long (negsuc 0) ∷ []) ≡ stops [] (FailsArgument 2)
+print_long_negative = refl
+
+print_short_great : print (codes "%hhd") (uint 2147483648 ∷ []) ≡ stops [] (FailsArgument 2)
+print_short_great = refl
+
+-- flags, a width by an argument, modifiers and conversions outside the profile
+print_alternative : print (codes "%#x") (uint 1 ∷ []) ≡ stops [] (IsUndefined U09)
+print_alternative = refl
+
+print_blank : print (codes "% d") (int (pos 1) ∷ []) ≡ stops [] (IsUndefined U09)
+print_blank = refl
+
+print_star : print (codes "%*d") (int (pos 1) ∷ int (pos 1) ∷ []) ≡ stops [] (IsUndefined U09)
+print_star = refl
+
+print_count : print (codes "%n") (string s ∷ []) ≡ stops [] (IsUndefined U09)
+print_count = refl
+
+print_maximum : print (codes "%jd") (number kind.Long (pos 1) ∷ []) ≡ stops [] (IsUndefined U09)
+print_maximum = refl
+
+print_long_character : print (codes "%lc") (int (pos 65) ∷ []) ≡ stops [] (IsUndefined U09)
+print_long_character = refl
+
+print_alone : print (codes "%-%") [] ≡ stops [] (IsUndefined U09)
+print_alone = refl
+
+-- the null behind a last `%`
+print_last : print (codes "ab%") [] ≡ stops (codes "ab") (IsUndefined U09)
+print_last = refl

@@ -39,6 +39,7 @@ use Rattle.lib_defs.proofs.Flows.{flows_still, flows_writing, puts_flows, abort_
 use Rattle.lib_defs.proofs.AllocationLaws.{malloc_fits, calloc_fits, realloc_fits, free_fits}
 use Rattle.lib_defs.proofs.StreamLaws.{first_small, set_fits, put_fits, get_fits, puts_fits, abort_fits, print_fits}
 use Rattle.lib_defs.proofs.StreamLaws.{handler_fits}
+use Rattle.lib_defs.proofs.Variants.{profile_variants}
 
 module _ (row : Row) (args : List Arg) (w : World) (keeps : Rest → Bool) where
   abbrev s : Storage
@@ -211,6 +212,7 @@ profile_keeps = record {
   handler = λ row args w e. handler_fits args w (name_at row) e;
   call_flows = λ row args w. row_flows args w (name_at row);
   resume_flows = λ rest value w. flows_still w.streams;
+  variants = profile_variants;
 }
 
 -- each function stands in one of the tables

@@ -15,6 +15,7 @@ use Rattle.lib_defs.proofs.Flows.{flows_still}
 use Rattle.lib_defs.proofs.PlainCalls.{Fits, answer_fits}
 use Rattle.lib_defs.proofs.StreamLaws.{handler_fits}
 use Rattle.lib_defs.proofs.ProfileLaws.{name_fits, row_flows}
+use Rattle.lib_defs.proofs.Variants.{sample_variants}
 
 call_fits : (row : Row) (args : List Arg) (w : World) (o : Option RowName) → name_at row ≡ o → IsWorld w
     → Fits row args w (waits row args) (sample_reply o row args w)
@@ -50,4 +51,5 @@ sample_keeps = record {
   handler = λ row args w e. handles row args w (name_at row) e;
   call_flows = λ row args w. flows row args w (name_at row);
   resume_flows = λ rest value w. flows_still w.streams;
+  variants = sample_variants;
 }

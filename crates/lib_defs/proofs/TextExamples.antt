@@ -11,7 +11,8 @@ use Rattle.object_store.specs.Steps.{with_store, bytes_at, with_dead}
 use Rattle.object_store.specs.Reach.{reach_table}
 use Rattle.lib_defs.specs.declared.reading.Reading.TheVariants.{Length, Unreached, Unknown}
 use Rattle.lib_defs.specs.declared.value.Value.TheVariants.{Num}
-use Rattle.lib_defs.specs.declared.violation.Violation.TheVariants.{SizeZero, DoesNotFit, NotEnded, Overlap}
+use Rattle.lib_defs.specs.declared.violation.Violation.TheVariants.{NullPointer, SizeAbove, SizeZero}
+use Rattle.lib_defs.specs.declared.violation.Violation.TheVariants.{DoesNotFit, NotEnded, Overlap}
 use Rattle.lib_defs.specs.Spans.{span}
 use Rattle.lib_defs.specs.Text.{text}
 use Rattle.lib_defs.specs.Reply.{Broken, Fails, FailsReach, IsUndefined, null, store_after}
@@ -226,3 +227,123 @@ part_append_itself : run_rule (part_append_row 1 d 4 d 1) three
     } ∷ []) (Num (pos 0))
 unfolding span reach_table
 part_append_itself = refl
+
+-- a length that the size ends
+length_cut : run_rule (length_row 1 c 3) five ≡ done_with [] (Num (pos 3))
+unfolding span reach_table
+length_cut = refl
+
+-- the constraints of strcpy_s that the arguments decide; the text behind them is not read
+copy_to_null : run_rule (text_copy_row 1 null 4 null) five ≡ Broken 1 NullPointer None (Num (pos 22))
+copy_to_null = refl
+
+copy_from_null : run_rule (text_copy_row 1 d 4 null) five
+    ≡ Broken 2 NullPointer (Some (record { place = d; len = 1; byte = 0 })) (Num (pos 22))
+unfolding reach_table
+copy_from_null = refl
+
+copy_max_above : run_rule (text_copy_row 1 d 16777217 d) five ≡ Broken 3 SizeAbove None (Num (pos 34))
+copy_max_above = refl
+
+-- and those of strncpy_s
+part_copy_to_null : run_rule (part_copy_row 1 null 4 null 4) five ≡ Broken 1 NullPointer None (Num (pos 22))
+part_copy_to_null = refl
+
+part_copy_from_null : run_rule (part_copy_row 1 d 4 null 4) five
+    ≡ Broken 2 NullPointer (Some (record { place = d; len = 1; byte = 0 })) (Num (pos 22))
+unfolding reach_table
+part_copy_from_null = refl
+
+part_copy_max_above : run_rule (part_copy_row 1 d 16777217 s 16777217) five ≡ Broken 3 SizeAbove None (Num (pos 34))
+part_copy_max_above = refl
+
+part_copy_size_above : run_rule (part_copy_row 1 d 0 s 16777217) five ≡ Broken 4 SizeAbove None (Num (pos 34))
+part_copy_size_above = refl
+
+part_copy_no_size : run_rule (part_copy_row 1 d 0 s 4) five ≡ Broken 5 SizeZero None (Num (pos 34))
+part_copy_no_size = refl
+
+-- char q[6] = "a\0bcd": strncpy_s(q + 1, 3, q, 1) reads the unit before the null, and with 2 the null too
+abbrev one : Storage
+one = store (object Plain (known (97 ∷ 0 ∷ 98 ∷ 99 ∷ 100 ∷ 0 ∷ [])) ∷ [])
+
+abbrev q : Pointer
+q = at 4 0 6
+
+part_copy_beside : run_rule (part_copy_row 1 (at 4 1 6) 3 q 1) one
+    ≡ done_with (record { place = at 4 1 6; bytes = known (codes "a") } ∷ record {
+      place = at 4 2 6;
+      bytes = Some 0 ∷ [];
+    } ∷ []) (Num (pos 0))
+unfolding span reach_table
+part_copy_beside = refl
+
+part_copy_overlap : run_rule (part_copy_row 1 (at 4 1 6) 3 q 2) one
+    ≡ Broken 7 Overlap (Some (record { place = at 4 1 6; len = 1; byte = 0 })) (Num (pos 22))
+unfolding span reach_table
+part_copy_overlap = refl
+
+-- the constraints of strcat_s that the arguments decide, and a destination that is indeterminate
+append_to_null : run_rule (append_row 1 null 4 null) three ≡ Broken 1 NullPointer None (Num (pos 22))
+append_to_null = refl
+
+append_from_null : run_rule (append_row 1 d 4 null) three
+    ≡ Broken 2 NullPointer (Some (record { place = d; len = 1; byte = 0 })) (Num (pos 22))
+unfolding reach_table
+append_from_null = refl
+
+append_max_above : run_rule (append_row 1 d 16777217 s) three ≡ Broken 3 SizeAbove None (Num (pos 34))
+append_max_above = refl
+
+append_no_size : run_rule (append_row 1 d 0 s) three ≡ Broken 4 SizeZero None (Num (pos 34))
+append_no_size = refl
+
+append_unset : run_rule (append_row 1 d 4 s) five ≡ Fails (IsUndefined U05)
+unfolding span reach_table
+append_unset = refl
+
+-- wcscat_s(v, 4, w) of L"" and L"abc"
+wide_append : run_rule (append_row 4 (at 4 0 16) 4 (at 6 0 16))
+    (store (object Plain (known (0 ∷ 0 ∷ 0 ∷ 0 ∷ []) ++ unset 12) ∷ object Plain (wide_bytes (codes "abc")) ∷ []))
+    ≡ done_with (record { place = at 4 0 16; bytes = wide_bytes (codes "abc") } ∷ []) (Num (pos 0))
+unfolding span reach_table
+wide_append = refl
+
+-- and those of strncat_s
+part_append_to_null : run_rule (part_append_row 1 null 4 null 1) three ≡ Broken 1 NullPointer None (Num (pos 22))
+part_append_to_null = refl
+
+part_append_from_null : run_rule (part_append_row 1 d 4 null 1) three
+    ≡ Broken 2 NullPointer (Some (record { place = d; len = 1; byte = 0 })) (Num (pos 22))
+unfolding reach_table
+part_append_from_null = refl
+
+part_append_max_above : run_rule (part_append_row 1 d 16777217 s 16777217) three
+    ≡ Broken 3 SizeAbove None (Num (pos 34))
+part_append_max_above = refl
+
+part_append_size_above : run_rule (part_append_row 1 d 0 s 16777217) three ≡ Broken 4 SizeAbove None (Num (pos 34))
+part_append_size_above = refl
+
+part_append_no_size : run_rule (part_append_row 1 d 0 s 1) three ≡ Broken 5 SizeZero None (Num (pos 34))
+part_append_no_size = refl
+
+part_append_not_ended : run_rule (part_append_row 1 (at 6 0 2) 2 (at 8 0 3) 0) three
+    ≡ Broken 6 NotEnded (Some (record { place = at 6 0 2; len = 1; byte = 0 })) (Num (pos 34))
+unfolding span reach_table
+part_append_not_ended = refl
+
+-- strncat_s(d, 4, f, 9): n may be larger where the text is short
+part_append_ended : run_rule (part_append_row 1 d 4 (at 8 0 3) 9) three
+    ≡ done_with (record { place = at 4 1 4; bytes = known (codes "bc") } ∷ record {
+      place = at 4 3 4;
+      bytes = Some 0 ∷ [];
+    } ∷ []) (Num (pos 0))
+unfolding span reach_table
+part_append_ended = refl
+
+-- strncat_s(d, 4, d, 2): here the null is read too, where the copy begins
+part_append_overlap : run_rule (part_append_row 1 d 4 d 2) three
+    ≡ Broken 8 Overlap (Some (record { place = d; len = 1; byte = 0 })) (Num (pos 22))
+unfolding span reach_table
+part_append_overlap = refl

@@ -1,9 +1,10 @@
 -- Runs of the row of tokens.
 use Rattle.std.proofs.Common.{◌≡◌, ℕ, List, [], ◌∷◌, Option, Some, None, refl}
 use Rattle.std.specs.Prelude.{codes}
-use Rattle.critical_table.specs.declared.case.Case.TheVariants.{L5, L12}
+use Rattle.critical_table.specs.declared.case.Case.TheVariants.{L5, L8, L12}
+use Rattle.critical_table.specs.declared.code.Code.TheVariants.{U05}
 use Rattle.object_store.specs.declared.by.By.TheVariants.{TextRead, TextWrite}
-use Rattle.object_store.specs.declared.mark.Mark.TheVariants.{Plain, Literal}
+use Rattle.object_store.specs.declared.mark.Mark.TheVariants.{Plain, Literal, Const}
 use Rattle.object_store.specs.declared.pointer.Pointer.{Pointer}
 use Rattle.object_store.specs.Storage.{Storage}
 use Rattle.object_store.specs.Load.{number_bytes, pointer_bytes, load_pointer}
@@ -11,7 +12,7 @@ use Rattle.object_store.specs.Reach.{reach_table}
 use Rattle.lib_defs.specs.declared.value.Value.TheVariants.{Ptr}
 use Rattle.lib_defs.specs.declared.violation.Violation.TheVariants.{NullPointer, SizeAbove, TokenNotEnded}
 use Rattle.lib_defs.specs.Spans.{span}
-use Rattle.lib_defs.specs.Reply.{Broken, Fails, FailsReach, null}
+use Rattle.lib_defs.specs.Reply.{Broken, Fails, FailsReach, IsUndefined, null}
 use Rattle.lib_defs.specs.Rules.{done_with, run_rule}
 use Rattle.lib_defs.specs.TokenRows.{both_patches, token_row}
 use Rattle.lib_defs.proofs.ExampleStore.{object, store, at, known, text_bytes, wide_bytes, unset}
@@ -111,3 +112,56 @@ wide : run_rule (token_row 4 (at 4 0 20) m (at 6 0 8) p)
     (Ptr (at 4 0 20))
 unfolding span reach_table pointer_bytes load_pointer
 wide = refl
+
+-- null pointers to the size, to the separators, to the place
+null_size : run_rule (token_row 1 a null null null) start ≡ Broken 1 NullPointer None (Ptr null)
+null_size = refl
+
+null_separators : run_rule (token_row 1 a m null null) start ≡ Broken 2 NullPointer None (Ptr null)
+null_separators = refl
+
+null_pointer : run_rule (token_row 1 a m comma null) start ≡ Broken 3 NullPointer None (Ptr null)
+null_pointer = refl
+
+-- the place is read where s1 is null alone, and then the size; each may be indeterminate
+unset_place : run_rule (token_row 1 null m comma p) start ≡ Fails (IsUndefined U05)
+unfolding span reach_table pointer_bytes load_pointer
+unset_place = refl
+
+unset_size : run_rule (token_row 1 a p comma p) start ≡ Fails (IsUndefined U05)
+unfolding span reach_table pointer_bytes load_pointer
+unset_size = refl
+
+-- a unit of the window that is indeterminate
+unset_unit : run_rule (token_row 1 a m comma p) (four (unset 5) (text_bytes (codes ",")) 5 (unset 16))
+    ≡ Fails (IsUndefined U05)
+unfolding span reach_table pointer_bytes load_pointer
+unset_unit = refl
+
+-- separators alone: with a null behind them there is no token, and without one it is not ended
+separators_null : run_rule (token_row 1 (at 4 0 3) m comma p)
+    (four (text_bytes (codes ",,")) (text_bytes (codes ",")) 3 (unset 16))
+    ≡ done_with (both_patches m p 1 (at 4 2 3)) (Ptr null)
+unfolding span reach_table pointer_bytes load_pointer
+separators_null = refl
+
+separators_not_ended : run_rule (token_row 1 (at 4 0 3) m comma p)
+    (four (text_bytes (codes ",,")) (text_bytes (codes ",")) 2 (unset 16))
+    ≡ Broken 6 TokenNotEnded None (Ptr null)
+unfolding span reach_table pointer_bytes load_pointer
+separators_not_ended = refl
+
+-- no separators: all of the text is the token
+no_separator : run_rule (token_row 1 (at 4 0 3) m (at 6 0 1) p)
+    (four (text_bytes (codes "ab")) (text_bytes []) 3 (unset 16))
+    ≡ done_with (both_patches m p 1 (at 4 2 3)) (Ptr (at 4 0 3))
+unfolding span reach_table pointer_bytes load_pointer
+no_separator = refl
+
+-- of the size and the place, neither of which can be stored, the size is told
+const_both : run_rule (token_row 1 a m comma p)
+    (store (object Plain (text_bytes (codes "a,,b")) ∷ object Literal (text_bytes (codes ",")) ∷ object Const
+    (known (number_bytes 8 5)) ∷ object Const (unset 16) ∷ []))
+    ≡ Fails (FailsReach L8 m 8 8 TextWrite)
+unfolding span reach_table pointer_bytes load_pointer
+const_both = refl

@@ -38,6 +38,7 @@ use Rattle.lib_defs.specs.Shown.{line_values, line_decisions, line_action, failu
 use Rattle.lib_defs.specs.Shown.{is_first_failing}
 use Rattle.lib_defs.specs.World.{Streams, World, Broken as BrokenInput, Flows}
 use Rattle.lib_defs.specs.Library.{Library, values_of}
+use Rattle.lib_defs.specs.Variants.{KeepsVariants}
 
 -- each object has a size that a store makes
 abbrev pub IsSized : Storage → Type 0
@@ -220,3 +221,4 @@ pub record KeepsLaws (l : Library) : Type 0 where
       → HandlerFits w (l.call row args w).streams (l.call row args w).did
   pub call_flows : (row : Row) (args : List Arg) (w : World) → Flows w.streams (l.call row args w).streams
   pub resume_flows : (rest : Rest) (value : Value) (w : World) → Flows w.streams (l.resume rest value w).streams
+  pub variants : KeepsVariants l

@@ -20,6 +20,7 @@ pub mod Shown
 pub mod Prototypes
 pub mod World
 pub mod Library
+pub mod Variants
 pub mod PlainMemory
 pub mod PlainTexts
 pub mod Allocation

@@ -1,11 +1,12 @@
 //! The rows of a program.
-ghost use Rattle.std.specs.Prelude.{◌≡◌, ℕ, ◌<◌, List, [], false, length, IfOk, OnErr};
+ghost use Rattle.std.specs.Prelude.{◌≡◌, ℕ, ◌<◌, [], false, length, IfOk, OnErr};
 ghost use Rattle.lib_defs.specs.RowNumbers.{IsRow};
 ghost use Rattle.lib_defs.specs.Prototypes.{FitRow};
 ghost use Rattle.lib_defs.specs.World.{Input};
 ghost use Rattle.lib_defs.specs.Library.{Library, IsAsked};
 ghost use Rattle.lib_defs.specs.Laws.{KeepsLaws};
-ghost use Rattle.lib_defs.specs.Answers.{Sight, SameSight, Answers, Counts, is_read_fault, is_write_fault};
+ghost use Rattle.lib_defs.specs.Answers.{Sight, SameSight, StayHanded, Answers, Counts};
+ghost use Rattle.lib_defs.specs.Answers.{is_read_fault, is_write_fault};
 
 use crate::args::Args;
 use crate::handler::Handler;
@@ -20,7 +21,7 @@ pub trait Rows {
     /// What each row answers, as plain data.
     ghost meaning: { Library };
 
-    /// What may be still to come of the input, and what may have been written of the output and the error output.
+    /// What may be still to come of the input, and what was written to output and error output, where that is told.
     ghost sight: { Self → Sight };
 
     /// No write has failed.
@@ -51,6 +52,7 @@ pub trait Rows {
 
         ensures answer { IfOk result (λ step. Answers (meaning.call row args.now.list) (sight self.old)
             (sight self.new) store.old store.new handler.old handler.new step) }
+        ensures handed { IfOk result (λ _. StayHanded (sight self.old) (sight self.new)) }
         ensures writable { IfOk result (λ step. is_write_fault step ≡ false → is_writable self.new) }
         ensures source { IfOk result (λ step.
             Counts (is_read_fault step) (source_faults self.old) (source_faults self.new)) }
@@ -70,6 +72,7 @@ pub trait Rows {
 
         ensures answer { (handler : _) → Answers (meaning.resume rest answer) (sight self.old) (sight self.new)
             store.old store.new handler handler result }
+        ensures handed { StayHanded (sight self.old) (sight self.new) }
         ensures writable { is_write_fault result ≡ false → is_writable self.new }
         ensures source { Counts (is_read_fault result) (source_faults self.old) (source_faults self.new) }
         ensures sinks { Counts (is_write_fault result) (sink_faults self.old) (sink_faults self.new) };
@@ -77,7 +80,6 @@ pub trait Rows {
     /// The meaning keeps the laws that every library keeps.
     ghost keeps: { KeepsLaws meaning };
 
-    /// Some input may come, and some output and error output may have been written.
-    ghost some: { (rows : Self) → ((input : Input) × (sight rows).comes input)
-        × ((output : List ℕ) × (err : List ℕ) × (sight rows).wrote output err) };
+    /// Some input may come.
+    ghost some: { (rows : Self) → (input : Input) × (sight rows).comes input };
 }

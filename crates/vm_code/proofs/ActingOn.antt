@@ -67,7 +67,7 @@ pair_found (Some (i.Pair value there, here)) n to others places go is =
     pair_found_if (is_zero (value -ℤ n)) there to others places go is
 pair_found _ n to others places go is = absurd (none_is_some to is)
 
-case_found : (instrs : List (Instr × Pos)) (count at : ℕ) (n : ℤ) (to : ℕ) → case_place instrs at count n ≡ Some to
+pub case_found : (instrs : List (Instr × Pos)) (count at : ℕ) (n : ℤ) (to : ℕ) → case_place instrs at count n ≡ Some to
     → Contains (case_places instrs at count) to
 case_found instrs zero at n to is = default_found (slice_get instrs at) to is
 case_found instrs (suc count) at n to is = pair_found (slice_get instrs at) n to

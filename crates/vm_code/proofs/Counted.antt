@@ -108,7 +108,7 @@ leaves_statics (object ∷ objects) t s le = leaves_bind t (within (length objec
     (λ u s1 le1. let P : ℕ → Type 0 = λ n. n ≤ t in
     leaves_statics objects t (placed object s1) (subst P (sym (placed_ticks object s1)) le1))
 
-end_from_le : (start : ℕ) (functions : List CodeFunction) (end : ℕ) → end_from start functions end ≤ end
+pub end_from_le : (start : ℕ) (functions : List CodeFunction) (end : ℕ) → end_from start functions end ≤ end
 end_from_le start [] end = omega arith
 end_from_le start (f ∷ fs) end = at_start (nat_lt start f.start && nat_lt f.start end) refl
     (end_from_le start fs f.start) (end_from_le start fs end)

@@ -43,7 +43,7 @@ all_at {A = A} p (y ∷ xs) zero x all within is = let P : A → Type 0 = λ z. 
 all_at p (y ∷ xs) (suc k) x all within is =
     all_at p xs k x (and_right (p y) (list_all p xs) all) (omega (arith, within)) is
 
-all_of : {A : Type 0} (p : A → Bool) (xs : List A) (x : A) → list_all p xs ≡ true → Contains xs x → p x ≡ true
+pub all_of : {A : Type 0} (p : A → Bool) (xs : List A) (x : A) → list_all p xs ≡ true → Contains xs x → p x ≡ true
 all_of p xs x all found = all_at p xs found.0 x all found.1 found.2
 
 lead_rest : (place less tick : Bool) (u at to : ℕ) → (place && (less || tick)) ≡ true → (less ≡ true → at < to)
@@ -95,6 +95,13 @@ falls_tick zero c operands same some = let P : ℕ → Type 0 = λ t. spent (len
 falls_tick (suc n) c operands same some =
     let rest : rest_at c.code (c.frame.at + 1) ≤ length c.code.instrs = rest_le c.code (c.frame.at + 1) in
     omega (arith, rest, some)
+
+pub inside_of : (code : Contents) (f : CodeFunction) (at : ℕ)
+    → (nat_le f.start at && nat_lt at (end_of code f)) ≡ true → f.start ≤ at × at < end_of code f
+inside_of code f at both = (
+  leb-true f.start at (and_left (nat_le f.start at) (nat_lt at (end_of code f)) both),
+  ltb-true at (end_of code f) (and_right (nat_le f.start at) (nat_lt at (end_of code f)) both),
+)
 
 module _ (code : Contents) (valid : IsValid code) (e : Environment) where
   sound_at : (f : CodeFunction) (at : ℕ) (instr : Instr) → Contains code.functions f → f.start ≤ at
@@ -175,13 +182,6 @@ module _ (code : Contents) (valid : IsValid code) (e : Environment) where
       at_instr (Some (instr, here)) stands =
           falls_act f frame rest s instr here is (inside refl).0 (inside refl).1 stands
 
-  inside_of : (f : CodeFunction) (at : ℕ) → (nat_le f.start at && nat_lt at (end_of code f)) ≡ true
-      → f.start ≤ at × at < end_of code f
-  inside_of f at both = (
-    leb-true f.start at (and_left (nat_le f.start at) (nat_lt at (end_of code f)) both),
-    ltb-true at (end_of code f) (and_right (nat_le f.start at) (nat_lt at (end_of code f)) both),
-  )
-
   falls_in : (frame : Activation) (rest : List Frame) (s : State) (o : Option CodeFunction)
       → function_at code.functions frame.function ≡ o
       → Falls code (spent (length code.instrs) s.ticks + (rest_at code frame.at + weights code rest))
@@ -189,7 +189,7 @@ module _ (code : Contents) (valid : IsValid code) (e : Environment) where
   falls_in frame rest s None is = tt
   falls_in frame rest s (Some f) is =
       falls_fetched (nat_le f.start frame.at && nat_lt frame.at (end_of code f)) f frame rest s
-      (inside_of f frame.at) (function_contained code.functions frame.function f is)
+      (inside_of code f frame.at) (function_contained code.functions frame.function f is)
 
   -- Each step leaves less.
   pub step_falls : (frames : List Frame) (s : State)

@@ -18,5 +18,6 @@ pub mod Valid
 pub mod Passing
 pub mod FirstFault
 pub mod Bound
+pub mod Progress
 pub mod Listing
 pub mod Writing

@@ -1,0 +1,2 @@
+-- What the rows answer by their library.
+pub mod NumberingLaws
