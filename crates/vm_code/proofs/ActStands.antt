@@ -1,6 +1,6 @@
 -- Each instruction that finds its operands and its object leads to where something stands again.
 use Rattle.std.proofs.Common.{◌≡◌, ℕ, zero, suc, ◌+◌, Bool, true, false, ℤ, List, [], ◌∷◌, length}
-use Rattle.std.proofs.Common.{replicate, Contains, Option, Some, None, Result, refl, sym}
+use Rattle.std.proofs.Common.{replicate, Contains, Option, Some, None, refl, sym}
 use Rattle.std.proofs.Common.{subst, arith, if◌then◌else◌}
 use Rattle.std.proofs.lemmas.Bool.{eqb-true, le-leb}
 use Rattle.std.specs.Prelude.{◌-ℤ◌, nat_le}

@@ -1,17 +1,12 @@
 -- What is known of a function's instructions as they are passed.
-use Rattle.std.proofs.Common.{◌≡◌, ◌≢◌, ◌⊎◌, inl, inr, ℕ, zero, suc, ◌+◌, ◌<◌, ◌≤◌, ◌==◌, Bool, true, false, List, []}
+use Rattle.std.proofs.Common.{◌≡◌, ◌⊎◌, inl, inr, ℕ, zero, suc, ◌==◌, Bool, true, false, List, []}
 use Rattle.std.proofs.Common.{◌∷◌, ◌++◌, length, Contains, Option, Some, None, refl, sym, ◌∙◌, ap, subst, arith}
 use Rattle.std.proofs.Common.{if◌then◌else◌, eqb-true, eq-eqb}
-use Rattle.std.specs.List.{slice_get, slice_index_or}
-use Rattle.critical_table.specs.declared.pos.Pos.{Pos}
-use Rattle.vm_code.specs.declared.instr.Instr.{Instr}
-use Rattle.vm_code.specs.declared.parts.CodeFunction.{CodeFunction}
+use Rattle.std.specs.List.{slice_get}
 use Rattle.vm_code.specs.Contents.{Contents}
-use Rattle.vm_code.specs.OperandKinds.{Kinds, kinds_after}
-use Rattle.vm_code.specs.Sound.{Stretch, is_place, next_places}
-use Rattle.vm_code.specs.Ways.{stretch_of}
-use Rattle.vm_code.specs.Passing.{Passing, Known, known_at, arrive_new, arrive, arrive_all, arrive_left, pass_instr}
-use Rattle.vm_code.specs.Passing.{pass_due, passing, IsKnown}
+use Rattle.vm_code.specs.OperandKinds.{Kinds}
+use Rattle.vm_code.specs.Sound.{Stretch, is_place}
+use Rattle.vm_code.specs.Passing.{Passing, arrive_new, arrive, arrive_all}
 use Rattle.vm_code.proofs.Fronts.{some_alone}
 use Rattle.vm_code.proofs.ActingOn.{none_is_some, later}
 

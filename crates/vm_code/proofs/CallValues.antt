@@ -1,5 +1,5 @@
 -- What calls leave on the operands below them, and which arguments fit the parameters of a function.
-use Rattle.std.proofs.Common.{◌≡◌, ◌+◌, true, List, [], ◌∷◌, ◌++◌}
+use Rattle.std.proofs.Common.{◌≡◌, true, List, [], ◌∷◌, ◌++◌}
 use Rattle.std.proofs.Common.{map, Some, refl, sym, subst}
 use Rattle.object_store.specs.declared.pointer.Pointer.{Pointer}
 use Rattle.lib_defs.specs.declared.value.Value.{Value}
@@ -12,7 +12,6 @@ use Rattle.c_core.specs.declared.form.Scalar.TheVariants as scalar
 use Rattle.vm_code.specs.declared.parts.Parameter.{Parameter}
 use Rattle.vm_code.specs.declared.parts.CodeFunction.{CodeFunction}
 use Rattle.vm_code.specs.declared.parts.CodeCalled.{CodeCalled}
-use Rattle.vm_code.specs.Frames.{Place}
 use Rattle.vm_code.specs.Calling.{fits_form, fit_parameters}
 use Rattle.vm_code.specs.Calling.{left_by, row_left}
 use Rattle.vm_code.specs.OperandKinds.{Kinds, push_form}

@@ -1,18 +1,16 @@
 -- No instruction fails as long as ways agree exactly where none fails at all.
-use Rattle.std.proofs.Common.{◌≡◌, ◌≢◌, ◌⊎◌, inl, inr, ◌↔◌, ℕ, zero, suc, ◌==◌, Bool, true, false, List, [], ◌∷◌, Contains}
-use Rattle.std.proofs.Common.{Option, Some, None, refl, sym, ◌∙◌, ap, subst, if◌then◌else◌, eq-eqb}
-use Rattle.std.specs.List.{slice_get}
+use Rattle.std.proofs.Common.{◌≡◌, ◌≢◌, ◌⊎◌, inl, inr, ◌↔◌, ℕ, zero, suc, true, [], Contains}
+use Rattle.std.proofs.Common.{Some, None, refl, sym, ap, subst, if◌then◌else◌, eq-eqb}
 use Rattle.vm_code.specs.declared.instr.Instr.{Instr}
-use Rattle.vm_code.specs.declared.instr.Instr.TheVariants as i
 use Rattle.vm_code.specs.declared.parts.CodeFunction.{CodeFunction}
 use Rattle.vm_code.specs.Contents.{Contents}
 use Rattle.vm_code.specs.OperandKinds.{Kinds, kinds_after}
-use Rattle.vm_code.specs.Sound.{Stretch, is_place, next_places}
+use Rattle.vm_code.specs.Sound.{is_place, next_places}
 use Rattle.vm_code.specs.Ways.{Slots, Step, Way, parameter_slots, slots_after, stretch_of}
 use Rattle.vm_code.specs.Valid.{StandsAt, Comes, Fails}
 use Rattle.vm_code.specs.Valid as plain
 use Rattle.vm_code.specs.Passing.{passing, IsKnown}
-use Rattle.vm_code.specs.FirstFault.{AgreeingWay, Agrees, FailsFirst, FaultsAreThere}
+use Rattle.vm_code.specs.FirstFault.{AgreeingWay, Agrees, FailsFirst}
 use Rattle.vm_code.specs.FirstFault as first
 use Rattle.vm_code.proofs.KindsAlike.{kinds_alike}
 use Rattle.vm_code.proofs.Passes.{From, one_passed, one_known, onward, start_known}
@@ -195,5 +193,5 @@ module _ (code : Contents) where
       (agrees_at code f (none_differ_first none f is) at kinds slots comes) stands
       (λ more a. nothing a.kinds more (comes_of code f at more a)))
 
-pub faults_are_there : FaultsAreThere
+pub faults_are_there : (code : Contents) → ((at : ℕ) → FailsFirst code at → ⊥) ↔ ((at : ℕ) → Fails code at → ⊥)
 faults_are_there code = (none_plain code, none_first code)

@@ -1,5 +1,5 @@
--- Whether two lists of kinds are the same is decided.
-use Rattle.std.proofs.Common.{◌≡◌, ◌≢◌, ◌⊎◌, inl, inr, ℕ, zero, suc, ◌==◌, Bool, true, false, List, [], ◌∷◌, refl, sym}
+-- Whether two lists are the same is decided where it is decided of what they hold, as of kinds.
+use Rattle.std.proofs.Common.{◌≡◌, ◌≢◌, ◌⊎◌, inl, inr, ℕ, ◌==◌, Bool, true, false, List, [], ◌∷◌, refl, sym}
 use Rattle.std.proofs.Common.{◌∙◌, ap, eqb-true, eq-eqb, if◌then◌else◌}
 use Rattle.std.proofs.lemmas.Bool.{false≢true}
 use Rattle.acc_num.specs.declared.kind.IntKind.TheVariants as k
@@ -45,31 +45,34 @@ numbered_back (Number k.U32) = refl
 numbered_back (Number k.I64) = refl
 numbered_back (Number k.U64) = refl
 
-scalar_alike : (a b : Scalar) → (a ≡ b) ⊎ (a ≢ b)
-scalar_alike a b = by_number (number_of a == number_of b) refl
+-- what has a number of its own is decided by it
+pub alike_by_number : {A : Type 0} (number : A → ℕ) (back : ℕ → A) → ((x : A) → back (number x) ≡ x) → (a b : A)
+    → (a ≡ b) ⊎ (a ≢ b)
+alike_by_number number back is a b = by_test (number a == number b) refl
   where
-    by_number : (same : Bool) → (number_of a == number_of b) ≡ same → (a ≡ b) ⊎ (a ≢ b)
-    by_number true same = inl (sym (numbered_back a) ∙ ap numbered (eqb-true (number_of a) (number_of b) same)
-        ∙ numbered_back b)
-    by_number false other = inr (λ same. false≢true
-        (sym other ∙ eq-eqb (number_of a) (number_of b) (ap number_of same)))
+    by_test : (same : Bool) → (number a == number b) ≡ same → (a ≡ b) ⊎ (a ≢ b)
+    by_test true same = inl (sym (is a) ∙ ap back (eqb-true (number a) (number b) same) ∙ is b)
+    by_test false other = inr (λ same. false≢true (sym other ∙ eq-eqb (number a) (number b) (ap number same)))
 
-abbrev head_of : Kinds → Scalar
-head_of [] = Pointer
-head_of (x ∷ xs) = x
-
-abbrev rest_of : Kinds → Kinds
+abbrev rest_of : {A : Type 0} → List A → List A
 rest_of [] = []
 rest_of (x ∷ xs) = xs
 
-pub kinds_alike : (a b : Kinds) → (a ≡ b) ⊎ (a ≢ b)
-kinds_alike [] [] = inl refl
-kinds_alike [] (y ∷ ys) = inr (λ same. cc)
-kinds_alike (x ∷ xs) [] = inr (λ same. cc)
-kinds_alike (x ∷ xs) (y ∷ ys) = elim (scalar_alike x y) [
-  | inl first ↦ elim (kinds_alike xs ys) [
-    | inl rest ↦ inl (ap (λ k. k ∷ xs) first ∙ ap (λ ks. y ∷ ks) rest)
+abbrev first_of : {A : Type 0} → A → List A → A
+first_of x [] = x
+first_of x (y ∷ ys) = y
+
+pub lists_alike : {A : Type 0} → ((a b : A) → (a ≡ b) ⊎ (a ≢ b)) → (xs ys : List A) → (xs ≡ ys) ⊎ (xs ≢ ys)
+lists_alike alike [] [] = inl refl
+lists_alike alike [] (y ∷ ys) = inr (λ same. cc)
+lists_alike alike (x ∷ xs) [] = inr (λ same. cc)
+lists_alike alike (x ∷ xs) (y ∷ ys) = elim (alike x y) [
+  | inl first ↦ elim (lists_alike alike xs ys) [
+    | inl rest ↦ inl (ap (λ z. z ∷ xs) first ∙ ap (λ zs. y ∷ zs) rest)
     | inr differ ↦ inr (λ same. differ (ap rest_of same))
   ]
-  | inr differ ↦ inr (λ same. differ (ap head_of same))
+  | inr differ ↦ inr (λ same. differ (ap (first_of x) same))
 ]
+
+pub kinds_alike : (a b : Kinds) → (a ≡ b) ⊎ (a ≢ b)
+kinds_alike = lists_alike (alike_by_number number_of numbered numbered_back)

@@ -33,3 +33,4 @@ mod Arriving
 mod KindsAlike
 mod Passes
 mod Faults
+mod Blame

@@ -1,9 +1,13 @@
 -- The parts and the lines of a list, from its first element on.
-use Rattle.std.proofs.Common.{◌≡◌, ℕ, ◌+◌, ◌-◌, ◌≤◌, List, [], ◌∷◌, ◌++◌, length, take, drop, get_or, sym, ◌∙◌, ap, arith}
-use Rattle.std.proofs.Common.{append_assoc, codes, refl, ◌==◌, false}
+use Rattle.std.proofs.Common.{◌≡◌, ℕ, ◌+◌, ◌-◌, ◌≤◌, ◌==◌, false, List, [], ◌∷◌, ◌++◌, length, take, drop, get_or}
+use Rattle.std.proofs.Common.{codes, Option, refl, sym, ◌∙◌, ap, arith, append_assoc}
+use Rattle.std.specs.Prelude.{Result}
 use Rattle.std.proofs.lemmas.Bool.{false≢true}
 use Rattle.std.proofs.lemmas.List.{take_rest}
+use Rattle.acc_io.specs.declared.failed.Failed.{Failed}
 use Rattle.vm_code.specs.Listing.{parts, lines, byte_part, bytes_text}
+use Rattle.vm_code.specs.Writing.{Told}
+use Rattle.vm_code.proofs.Telling.{told_same}
 
 -- what is left behind the first
 abbrev behind : {A : Type 0} → List A → List A
@@ -45,3 +49,9 @@ pub next_line : {A : Type 0} (line : ℕ → A → List ℕ) (k : ℕ) (xs : Lis
 next_line line k xs x done whole some is all =
     append_assoc done (line k x) (lines line (k + 1) (behind xs))
     ∙ ap (λ t. done ++ t) (sym (first_line line k xs x some is)) ∙ all
+
+-- the lines of the same list
+pub told_lines : {A : Type 0} {f0 f1 : ℕ} {w0 w1 : Option (List ℕ)} {r0 r1 : ℕ → Type 0}
+    {result : Result (Unit {0}) Failed} {xs ys : List A} (line : ℕ → A → List ℕ) (k : ℕ) → xs ≡ ys
+    → Told f0 f1 w0 w1 r0 r1 result (lines line k xs) → Told f0 f1 w0 w1 r0 r1 result (lines line k ys)
+told_lines {ys = ys} line k same told = told_same (lines line k ys) (ap (lines line k) same) told

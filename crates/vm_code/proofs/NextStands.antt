@@ -13,7 +13,6 @@ use Rattle.critical_table.specs.declared.pos.Pos.{Pos}
 use Rattle.object_store.specs.declared.mark.Mark.TheVariants.{Const}
 use Rattle.object_store.specs.declared.pointer.Pointer.{Pointer}
 use Rattle.lib_defs.specs.declared.value.Value.{Value}
-use Rattle.lib_defs.specs.declared.value.Value.TheVariants.{Nothing}
 use Rattle.lib_defs.specs.Library.{Library}
 use Rattle.lib_defs.specs.Variants.{KeepsVariants}
 use Rattle.run_defs.specs.State.{State, sealed}
@@ -34,7 +33,7 @@ use Rattle.vm_code.specs.Accesses.{scalar_stored}
 use Rattle.vm_code.specs.Operators.{computed}
 use Rattle.vm_code.specs.Slots.{Held}
 use Rattle.vm_code.specs.Frames.{Activation, Frame, Active, Place, Stuck}
-use Rattle.vm_code.specs.Machine.{on_top, on_two, on_number, on_pointer, Context, goes_to, next, push, gives}
+use Rattle.vm_code.specs.Machine.{on_top, on_two, on_number, on_pointer, Context, goes_to, next, gives}
 use Rattle.vm_code.specs.Machine.{does, text_stored, pools}
 use Rattle.vm_code.specs.Machine.{uses, calls, act}
 use Rattle.vm_code.specs.OperandKinds.{Kinds, pop, pop_number, pop_forms, push_form, duplicate, pop_any, swap_two}

@@ -12,7 +12,6 @@ use Rattle.acc_num.specs.declared.kind.IntKind.TheVariants.{I32}
 use Rattle.object_store.specs.declared.pointer.Pointer.{Pointer}
 use Rattle.lib_defs.specs.declared.row.Row.{Row}
 use Rattle.lib_defs.specs.declared.row_name.RowName.{RowName}
-use Rattle.lib_defs.specs.declared.value.Value.TheVariants.{Nothing}
 use Rattle.lib_defs.specs.Handlers.{first_function}
 use Rattle.lib_defs.specs.Library.{Library}
 use Rattle.lib_defs.specs.Prototypes.{prototype}
@@ -27,7 +26,6 @@ use Rattle.vm_code.specs.Contents.{Contents}
 use Rattle.vm_code.specs.Contents as code_parts
 use Rattle.vm_code.specs.CodeFunctions.{calls_function, is_called_by, handler_type, comparing_type, row_if}
 use Rattle.vm_code.specs.CodeFunctions.{function_of, function_numbered, environment}
-use Rattle.vm_code.specs.Frames.{Place}
 use Rattle.vm_code.specs.OperandKinds.{same_kind}
 use Rattle.vm_code.specs.Sound.{same_form, form_of, prototype_fits, takes_forms, kinds_of_forms, function_fits}
 use Rattle.vm_code.specs.Sound.{library_fits}

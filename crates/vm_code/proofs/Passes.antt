@@ -1,6 +1,6 @@
 -- All that is known of a function's instructions comes to where they lead; and it comes by ways.
-use Rattle.std.proofs.Common.{◌≡◌, ◌≢◌, ◌⊎◌, inl, inr, ℕ, zero, suc, ◌+◌, ◌<◌, ◌≤◌, ◌==◌, Bool, true, false, List, []}
-use Rattle.std.proofs.Common.{◌∷◌, ◌++◌, length, Contains, Option, Some, None, refl, sym, ◌∙◌, ap, subst, arith}
+use Rattle.std.proofs.Common.{◌≡◌, ◌⊎◌, inl, inr, ℕ, zero, suc, ◌+◌, ◌==◌, Bool, true, false, List, []}
+use Rattle.std.proofs.Common.{◌∷◌, Contains, Option, Some, None, refl, sym, ◌∙◌, ap, subst, arith}
 use Rattle.std.proofs.Common.{if◌then◌else◌, eqb-true, zero-add, suc-add}
 use Rattle.std.specs.List.{slice_get}
 use Rattle.critical_table.specs.declared.pos.Pos.{Pos}
@@ -8,13 +8,13 @@ use Rattle.vm_code.specs.declared.instr.Instr.{Instr}
 use Rattle.vm_code.specs.declared.parts.CodeFunction.{CodeFunction}
 use Rattle.vm_code.specs.Contents.{Contents}
 use Rattle.vm_code.specs.OperandKinds.{Kinds, kinds_after}
-use Rattle.vm_code.specs.Sound.{Stretch, is_place, next_places}
+use Rattle.vm_code.specs.Sound.{is_place, next_places}
 use Rattle.vm_code.specs.Ways.{stretch_of}
-use Rattle.vm_code.specs.Passing.{Passing, Known, known_at, arrive_all, arrive_left, pass_instr, pass_due, passing}
+use Rattle.vm_code.specs.Passing.{Passing, Known, arrive_all, arrive_left, pass_instr, pass_due, passing}
 use Rattle.vm_code.specs.Passing.{IsKnown}
 use Rattle.vm_code.proofs.Fronts.{some_alone}
 use Rattle.vm_code.proofs.ActingOn.{none_is_some}
-use Rattle.vm_code.proofs.Arriving.{Arrived, Fresh, all_arrived}
+use Rattle.vm_code.proofs.Arriving.{Arrived, all_arrived}
 
 -- an instruction with known kinds leads others to a place
 pub record From (code : Contents) (f : CodeFunction) (known : Known) (to : ℕ) (left : Kinds) : Type 0 where

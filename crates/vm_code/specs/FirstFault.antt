@@ -4,11 +4,12 @@ use Rattle.std.specs.List.{slice_get}
 use Rattle.vm_code.specs.declared.instr.Instr.{Instr}
 use Rattle.vm_code.specs.declared.instr.Instr.TheVariants as i
 use Rattle.vm_code.specs.declared.parts.CodeFunction.{CodeFunction}
-use Rattle.vm_code.specs.Contents.{Contents}
+use Rattle.vm_code.specs.declared.parts.CodeCalled.{CodeCalled}
+use Rattle.vm_code.specs.Contents.{Contents, function_at}
 use Rattle.vm_code.specs.OperandKinds.{Kinds, kinds_after}
 use Rattle.vm_code.specs.Sound.{Stretch, is_place, is_sound, next_places}
-use Rattle.vm_code.specs.Ways.{Slots, Step, Way, parameter_slots, stretch_of}
-use Rattle.vm_code.specs.Valid.{StandsAt, LacksSlot, IsStretch, Fails}
+use Rattle.vm_code.specs.Ways.{Slots, Step, parameter_slots, stretch_of}
+use Rattle.vm_code.specs.Valid.{StandsAt, LacksSlot, IsStretch, HasType, IsValid}
 use Rattle.vm_code.specs.Passing.{IsKnown}
 
 -- a way of n steps, on which only kinds come that came first, comes to an instruction with these slots
@@ -47,11 +48,29 @@ pub data FailsFirst (code : Contents) (at : ℕ) : Type 0 where
       → Agrees code f at slots → StandsAt code at (i.Kill slot)
       → ((more : Slots) → Agrees code f at more → more slot ≡ None) → FailsFirst code at
 
--- the first of them
-pub record IsFirstFault (code : Contents) (at : ℕ) : Type 0 where
-  pub fails : FailsFirst code at
-  pub first : (before : ℕ) → before < at → FailsFirst code before → ⊥
+-- Last it is asked of the unit's own functions in called types that they have these types. A function's first
+-- instruction is blamed for it.
+pub record Misfits (code : Contents) (at : ℕ) : Type 0 where
+  pub type : ℕ
+  pub called : CodeCalled
+  pub is : slice_get code.types type ≡ Some called
+  pub number : ℕ
+  pub f : CodeFunction
+  pub listed : Contains called.functions number
+  pub found : function_at code.functions number ≡ Some f
+  pub starts : f.start ≡ at
+  pub differs : HasType called f → ⊥
 
--- No instruction fails as long as ways agree exactly where none fails at all.
-abbrev pub FaultsAreThere : Type 0
-FaultsAreThere = (code : Contents) → ((at : ℕ) → FailsFirst code at → ⊥) ↔ ((at : ℕ) → Fails code at → ⊥)
+-- The instruction that is blamed: the first that fails, and where none does, the first that starts such a function.
+pub data IsBlamed (code : Contents) (at : ℕ) : Type 0 where
+  FirstFault : FailsFirst code at → ((before : ℕ) → before < at → FailsFirst code before → ⊥) → IsBlamed code at
+  FirstMisfit : ((place : ℕ) → FailsFirst code place → ⊥) → Misfits code at
+      → ((before : ℕ) → before < at → Misfits code before → ⊥) → IsBlamed code at
+
+-- At most one instruction is blamed, and none exactly where the code is valid.
+pub record IsFairlyBlamed (code : Contents) : Type 0 where
+  pub one : (a b : ℕ) → IsBlamed code a → IsBlamed code b → a ≡ b
+  pub none : ((at : ℕ) → IsBlamed code at → ⊥) ↔ IsValid code
+
+abbrev pub BlameIsFair : Type 0
+BlameIsFair = (code : Contents) → IsFairlyBlamed code

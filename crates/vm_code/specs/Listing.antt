@@ -21,7 +21,6 @@ use Rattle.c_core.specs.declared.operator.Operator.{Operator}
 use Rattle.c_core.specs.declared.operator.Operator.TheVariants as op
 use Rattle.c_core.specs.declared.operator.Relation.{Relation}
 use Rattle.c_core.specs.declared.operator.Relation.TheVariants as r
-use Rattle.c_core.specs.declared.operator.Stride.{Stride}
 use Rattle.vm_code.specs.declared.instr.Instr.{Instr}
 use Rattle.vm_code.specs.declared.instr.Instr.TheVariants as i
 use Rattle.vm_code.specs.declared.parts.Parameter.{Parameter}

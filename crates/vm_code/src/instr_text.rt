@@ -2,7 +2,8 @@
 ghost use Rattle.std.specs.Prelude.{◌≡◌, ℕ, ◌+◌, ◌≤◌, ◌++◌, codes, length, decimal};
 ghost use Rattle.std.specs.Fmt.{signed_decimal};
 ghost use Rattle.run_defs.specs.Lines.{by_text, pointer_text};
-ghost use Rattle.vm_code.specs.Listing.{kind_text, scalar_text, operator_text, comparison_text, relation_text, sign_text};
+ghost use Rattle.vm_code.specs.Listing.{kind_text, scalar_text, operator_text, comparison_text, relation_text};
+ghost use Rattle.vm_code.specs.Listing.{sign_text};
 ghost use Rattle.vm_code.specs.Listing.{number_text, instr_text};
 
 use crate::instr::Instr;

@@ -1,6 +1,6 @@
 //! What holds of each run of the machine.
 ghost use Rattle.vm_code.specs.Bound.{RunsAreBounded};
-ghost use Rattle.vm_code.specs.FirstFault.{FaultsAreThere};
+ghost use Rattle.vm_code.specs.FirstFault.{BlameIsFair};
 ghost use Rattle.vm_code.specs.OneEnd.{RunsHaveOneEnd};
 ghost use Rattle.vm_code.specs.Progress.{CallsNeverStick, RunsNeverStick};
 
@@ -24,8 +24,7 @@ pub fn progress_law()
     ensures runs { RunsNeverStick }
 {}
 
-/// No instruction fails as long as ways agree exactly where none fails at all. So the first of the former is there
-/// exactly where code isn't valid.
-pub fn fault_law()
-    ensures { FaultsAreThere }
+/// At most one instruction of code is blamed, and none exactly where the code is valid.
+pub fn blame_law()
+    ensures { BlameIsFair }
 {}

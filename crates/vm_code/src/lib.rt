@@ -19,7 +19,7 @@ pub use c_core::Form;
 pub use code::Code;
 pub use code_listing::listing;
 pub use instr::Instr;
-pub use law::{bound_law, end_law, fault_law, progress_law};
+pub use law::{blame_law, bound_law, end_law, progress_law};
 pub use parts::{CodeCalled, CodeFunction, CodeObject, Parameter};
 pub use run_defs::Seal;
 pub use sequence::Sequence;

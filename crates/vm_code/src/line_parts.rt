@@ -1,7 +1,7 @@
 //! The parts of a listing's lines.
 ghost use Rattle.std.specs.Prelude.{◌≡◌, ℕ, ◌+◌, ◌<◌, ◌≤◌, List, [], ◌∷◌, ◌++◌, codes, length};
 ghost use Rattle.vm_code.specs.Writing.{Told};
-ghost use Rattle.vm_code.specs.Listing.{number_text, form_text, form_part, arg_text, arg_part, parameter_part, seal_part};
+ghost use Rattle.vm_code.specs.Listing.{number_text, form_text, form_part, arg_part, parameter_part, seal_part};
 ghost use Rattle.vm_code.specs.Listing.{unlike_const, hex_digit, byte_part, bytes_text, parts, is_whole_mark, is_whole};
 ghost use Rattle.vm_code.specs.Listing.{members_text, mark_whole, marks_text};
 ghost use Rattle.run_defs.specs.Lines.{mark_text};

@@ -288,10 +288,16 @@ fn lists_each_part(rt: HostRuntime) -> Result<(), Fail> {
 #[test]
 fn stops_where_a_write_fails(rt: HostRuntime) -> Result<(), Fail> {
     let code = every_part(rt.alloc())?;
-    for room in [0, 7, 40, 150] {
+    let fronts: [(usize, &[u8]); 4] = [
+        (0, b""),
+        (7, b"code\ni "),
+        (15, b"code\ni 0 leave\n"),
+        (26, b"code\ni 0 leave\nf 1 main 0 "),
+    ];
+    for (room, front) in fronts {
         let mut sink = MemSink::new(rt.alloc(), room, 1, Vec::new(rt.alloc()))?;
         assert_eq!(rt; code.list(&mut sink).is_ok(), false);
-        assert_eq!(rt; sink.bytes(), &OTHER_LINES.as_bytes()[..room]);
+        assert_eq!(rt; sink.bytes(), front);
     }
     Ok(())
 }

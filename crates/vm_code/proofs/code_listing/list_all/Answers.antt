@@ -1,5 +1,5 @@
 -- Each line adds itself to those that are written.
-use Rattle.std.proofs.Common.{◌+◌, ◌-◌, length, take, drop, arith}
+use Rattle.std.proofs.Common.{arith}
 use Rattle.std.proofs.lemmas.Result.{err_from_is_err_and}
 use Rattle.vm_code.specs.Listing.{lines}
 use Rattle.vm_code.proofs.Telling.{told_both, told_part, told_same}

@@ -1,5 +1,5 @@
 -- Each part adds itself to those that are written.
-use Rattle.std.proofs.Common.{◌-◌, length, take, drop, ◌∙◌}
+use Rattle.std.proofs.Common.{◌∙◌}
 use Rattle.std.proofs.lemmas.Result.{err_from_is_err_and}
 use Rattle.vm_code.specs.Listing.{parts}
 use Rattle.vm_code.proofs.Telling.{told_both, told_part, told_same}

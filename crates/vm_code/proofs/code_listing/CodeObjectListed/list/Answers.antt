@@ -1,4 +1,4 @@
--- Part by part.
+-- A static object's line is written part by part.
 use Rattle.std.proofs.Common.{codes, length}
 use Rattle.std.proofs.lemmas.Result.{err_from_is_err_and}
 use Rattle.vm_code.specs.Listing.{number_text, marks_text, bytes_text}
@@ -19,31 +19,46 @@ pub returns-in_err-put_number : goal.returns-in_err-put_number
 returns-in_err-put_number g c =
     let r = c.from_residual-in_err-put_number in
     let p = err_from_is_err_and r.result r.ensures.1 in
+    let two = told_both c.in_ok-put.ensures c.in_err-put_number.ensures in
     told_on r.result p.0 (codes "\n") p.1
     (told_on r.result p.0 (bytes_text c.args.self.now.bytes) p.1
     (told_on r.result p.0 (marks_text (length c.args.self.now.bytes) c.args.self.now.seals) p.1
-    (told_part r.result p.0 (number_text (length c.args.self.now.bytes)) p.1 (told_both c.in_ok-put.ensures c.in_err-put_number.ensures))))
+    (told_part r.result p.0 (number_text (length c.args.self.now.bytes)) p.1 two)))
 
 pub returns-in_err-put_length : goal.returns-in_err-put_length
 returns-in_err-put_length g c =
     let r = c.from_residual-in_err-put_length in
     let p = err_from_is_err_and r.result r.ensures.1 in
+    let two = told_both c.in_ok-put.ensures c.in_ok-put_number.ensures in
+    let three = told_both two c.in_err-put_length.ensures in
     told_on r.result p.0 (codes "\n") p.1
     (told_on r.result p.0 (bytes_text c.args.self.now.bytes) p.1
-    (told_part r.result p.0 (marks_text (length c.args.self.now.bytes) c.args.self.now.seals) p.1 (told_both (told_both c.in_ok-put.ensures c.in_ok-put_number.ensures) c.in_err-put_length.ensures)))
+    (told_part r.result p.0 (marks_text (length c.args.self.now.bytes) c.args.self.now.seals) p.1 three))
 
 pub returns-in_err-put_object_marks : goal.returns-in_err-put_object_marks
 returns-in_err-put_object_marks g c =
     let r = c.from_residual-in_err-put_object_marks in
     let p = err_from_is_err_and r.result r.ensures.1 in
+    let two = told_both c.in_ok-put.ensures c.in_ok-put_number.ensures in
+    let three = told_both two c.in_ok-put_length.ensures in
+    let four = told_both three c.in_err-put_object_marks.ensures in
     told_on r.result p.0 (codes "\n") p.1
-    (told_part r.result p.0 (bytes_text c.args.self.now.bytes) p.1 (told_both (told_both (told_both c.in_ok-put.ensures c.in_ok-put_number.ensures) c.in_ok-put_length.ensures) c.in_err-put_object_marks.ensures))
+    (told_part r.result p.0 (bytes_text c.args.self.now.bytes) p.1 four)
 
 pub returns-in_err-put_contents : goal.returns-in_err-put_contents
 returns-in_err-put_contents g c =
     let r = c.from_residual-in_err-put_contents in
     let p = err_from_is_err_and r.result r.ensures.1 in
-    told_part r.result p.0 (codes "\n") p.1 (told_both (told_both (told_both (told_both c.in_ok-put.ensures c.in_ok-put_number.ensures) c.in_ok-put_length.ensures) c.in_ok-put_object_marks.ensures) c.in_err-put_contents.ensures)
+    let two = told_both c.in_ok-put.ensures c.in_ok-put_number.ensures in
+    let three = told_both two c.in_ok-put_length.ensures in
+    let four = told_both three c.in_ok-put_object_marks.ensures in
+    let five = told_both four c.in_err-put_contents.ensures in
+    told_part r.result p.0 (codes "\n") p.1 five
 
 pub returns : goal.returns
-returns g c = told_both (told_both (told_both (told_both (told_both c.in_ok-put.ensures c.in_ok-put_number.ensures) c.in_ok-put_length.ensures) c.in_ok-put_object_marks.ensures) c.in_ok-put_contents.ensures) c.put-2.ensures
+returns g c =
+    let two = told_both c.in_ok-put.ensures c.in_ok-put_number.ensures in
+    let three = told_both two c.in_ok-put_length.ensures in
+    let four = told_both three c.in_ok-put_object_marks.ensures in
+    let five = told_both four c.in_ok-put_contents.ensures in
+    told_both five c.put-2.ensures
