@@ -1,11 +1,16 @@
 -- What the rows of a program answer, by the meaning of their library.
 use Rattle.std.specs.Prelude.{◌≡◌, ℕ, ◌≤◌, Bool, true, false, List, ◌++◌, ◌↔◌, Option, Some, None}
+use Rattle.std.specs.Option.{option_map_or}
 use Rattle.acc_io.specs.Cause.{FaultCounted}
 use Rattle.critical_table.specs.declared.ended.Ended.TheVariants as ended
 use Rattle.object_store.specs.Storage.{Storage}
 use Rattle.lib_defs.specs.declared.handler.Handler.{Handler}
+use Rattle.lib_defs.specs.declared.row.Row.{Row}
+use Rattle.lib_defs.specs.declared.row_name.RowName.{RowName}
+use Rattle.lib_defs.specs.declared.row_name.RowName.TheVariants as n
 use Rattle.lib_defs.specs.declared.step.LibStep.{LibStep}
 use Rattle.lib_defs.specs.declared.step.LibStep.TheVariants as step
+use Rattle.lib_defs.specs.RowNumbers.{name_at}
 use Rattle.lib_defs.specs.Reply.{step_of, store_after, handler_after}
 use Rattle.lib_defs.specs.World.{Input, World, Reply, world}
 
@@ -24,6 +29,16 @@ pub record Counts (is_fault : Bool) (before now : ℕ) : Type 0 where
   pub never_falls : before ≤ now
   pub cause : is_fault ≡ true → FaultCounted before now
   pub kept : is_fault ≡ false → now ≡ before
+
+-- The functions that take memory (7.22.3). All others succeed without it.
+abbrev pub is_memory_name : RowName → Bool
+is_memory_name n.Malloc = true
+is_memory_name n.Calloc = true
+is_memory_name n.Realloc = true
+is_memory_name _ = false
+
+abbrev pub takes_memory : Row → Bool
+takes_memory row = option_map_or is_memory_name (name_at row) false
 
 -- What was written to a stream: what its sink was handed, and behind it what the rows still hold back.
 pub record Written : Type 0 where

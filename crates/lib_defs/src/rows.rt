@@ -1,12 +1,12 @@
 //! The rows of a program.
-ghost use Rattle.std.specs.Prelude.{◌≡◌, ℕ, ◌<◌, [], false, length, IfOk, OnErr};
+ghost use Rattle.std.specs.Prelude.{◌≡◌, ℕ, ◌<◌, [], true, false, length, IfOk, OnErr};
 ghost use Rattle.lib_defs.specs.RowNumbers.{IsRow};
 ghost use Rattle.lib_defs.specs.Prototypes.{FitRow};
 ghost use Rattle.lib_defs.specs.World.{Input};
 ghost use Rattle.lib_defs.specs.Library.{Library, IsAsked};
 ghost use Rattle.lib_defs.specs.Laws.{KeepsLaws};
 ghost use Rattle.lib_defs.specs.Answers.{Sight, SameSight, StayHanded, Answers, Counts};
-ghost use Rattle.lib_defs.specs.Answers.{is_read_fault, is_write_fault};
+ghost use Rattle.lib_defs.specs.Answers.{is_read_fault, is_write_fault, takes_memory};
 
 use crate::args::Args;
 use crate::handler::Handler;
@@ -35,7 +35,8 @@ pub trait Rows {
 
     /// Calls a row.
     ///
-    /// Want of memory leaves the store, the handler, the streams and both counts as they were.
+    /// Only `malloc`, `calloc` and `realloc` take memory. Want of it leaves the store, the handler, the streams and both
+    /// counts as they were.
     fn call(
         &mut self,
         alloc: Global,
@@ -59,6 +60,7 @@ pub trait Rows {
         ensures sinks { IfOk result (λ step.
             Counts (is_write_fault step) (sink_faults self.old) (sink_faults self.new)) }
 
+        ensures spares { OnErr result (takes_memory row ≡ true) }
         ensures memory { OnErr result ((store.new ≡ store.old) × (handler.new ≡ handler.old) × is_writable self.new) }
         ensures streams { OnErr result (SameSight (sight self.old) (sight self.new)) }
         ensures source_kept { OnErr result (source_faults self.new ≡ source_faults self.old) }
