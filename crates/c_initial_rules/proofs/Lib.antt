@@ -1,0 +1,5 @@
+pub mod Flat
+pub mod Elements
+pub mod Sealed
+pub mod Verdicts
+pub mod StoreExamples

@@ -1,0 +1,7 @@
+-- The definitions of the crate, in reading order.
+pub mod Addresses
+pub mod Constants
+pub mod Literals
+pub mod Initials
+pub mod Seals
+pub mod Stored
