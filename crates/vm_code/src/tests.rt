@@ -211,14 +211,17 @@ i 38 give
 i 39 leave
 ";
 
-const OTHER_LINES: &str = "code
-i 0 leave
-f 1 main 0 4:u32 16:ptr 9:place
+const OBJECT_LINES: &str = "code
 s 0 3 plain 0a00ff
 s 1 2 literal 6100
 s 2 1 const 07
 s 3 3 members 0:1 1:1:clash 000102
 s 4 1 members 0:1:clash 00
+";
+
+const OTHER_LINES: &str = "code
+i 0 leave
+f 1 main 0 4:u32 16:ptr 9:place
 x 0 ab
 x 1
 t 0 nothing 2 ptr i32 2 charpointer int 3 54
@@ -234,18 +237,35 @@ fn lists_each_instruction(rt: HostRuntime) -> Result<(), Fail> {
     Ok(())
 }
 
-fn seal(at: u32, len: u32, mark: Mark) -> Seal {
-    Seal { at, len, mark }
-}
-
-fn add_objects(code: &mut Code) -> Result<(), AllocError> {
+/// A code with a static object for each way to write its marks.
+fn every_object(alloc: Global) -> Result<Code, AllocError> {
+    let mut code = Code::new(alloc)?;
+    let literal = Seal {
+        at: 0,
+        len: 2,
+        mark: Mark::Literal,
+    };
+    let first = Seal {
+        at: 0,
+        len: 1,
+        mark: Mark::Const,
+    };
+    let second = Seal {
+        at: 1,
+        len: 1,
+        mark: Mark::Clash,
+    };
+    let clash = Seal {
+        at: 0,
+        len: 1,
+        mark: Mark::Clash,
+    };
     code.object(&[10, 0, 255], &[])?;
-    code.object(b"a\0", &[seal(0, 2, Mark::Literal)])?;
-    code.object(&[7], &[seal(0, 1, Mark::Const)])?;
-    let members = [seal(0, 1, Mark::Const), seal(1, 1, Mark::Clash)];
-    code.object(&[0, 1, 2], &members)?;
-    code.object(&[0], &[seal(0, 1, Mark::Clash)])?;
-    Ok(())
+    code.object(&[97, 0], &[literal])?;
+    code.object(&[7], &[first])?;
+    code.object(&[0, 1, 2], &[first, second])?;
+    code.object(&[0], &[clash])?;
+    Ok(code)
 }
 
 fn every_part(alloc: Global) -> Result<Code, AllocError> {
@@ -267,7 +287,6 @@ fn every_part(alloc: Global) -> Result<Code, AllocError> {
         },
     ];
     code.function(b"main", 0, &parameters, int, 0)?;
-    add_objects(&mut code)?;
     code.text(&[0xab])?;
     code.text(b"")?;
     let kinds = [ArgKind::CharPointer, ArgKind::Int];
@@ -282,6 +301,15 @@ fn lists_each_part(rt: HostRuntime) -> Result<(), Fail> {
     let mut sink = MemSink::new(rt.alloc(), 4000, 3, Vec::new(rt.alloc()))?;
     assert_eq!(rt; code.list(&mut sink).is_ok(), true);
     assert_eq!(rt; sink.bytes(), OTHER_LINES.as_bytes());
+    Ok(())
+}
+
+#[test]
+fn lists_each_object(rt: HostRuntime) -> Result<(), Fail> {
+    let code = every_object(rt.alloc())?;
+    let mut sink = MemSink::new(rt.alloc(), 4000, 3, Vec::new(rt.alloc()))?;
+    assert_eq!(rt; code.list(&mut sink).is_ok(), true);
+    assert_eq!(rt; sink.bytes(), OBJECT_LINES.as_bytes());
     Ok(())
 }
 
