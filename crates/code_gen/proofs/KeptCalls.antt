@@ -56,7 +56,7 @@ module _ (e : Environment) (calls : List OpenCall) where
   at_ranges : (number : ℕ) (ranges : List Range) (s : State) → At e s calls
       → At e (ranges_sealed number ranges s) calls
   at_ranges number [] s a = a
-  at_ranges number (range ∷ rest) s a = at_ranges number rest _ (at_sealed e s calls number _ a)
+  at_ranges number (range ∷ rest) s a = at_ranges number rest _ (at_sealed e s calls number _ refl a)
 
   at_parameters : (parameters : List Parameter) (held : List Held) (s : State) → At e s calls
       → At e (parameters_sealed parameters held s) calls

@@ -137,7 +137,7 @@ module _ (e : Environment) (calls : List OpenCall) (program : Program) (call : C
             (evaluated_keeps names core held _ t.3 (λ v. content_keeps e calls content _ v (pos_in core)) s a)
         action_keeps names flow here (unit.InitializeBytes slot at bytes) t held =
             λ s a. next_keeps e calls _ (stored_keeps e _ _ here s calls a)
-        action_keeps names flow here (unit.SealBytes slot at len) t held = λ s a. at_sealed e s calls _ _ a
+        action_keeps names flow here (unit.SealBytes slot at len) t held = λ s a. at_sealed e s calls _ _ refl a
         action_keeps names flow here (unit.Evaluate core) t held =
             λ s a. next_keeps e calls _ (done_keeps names core held t.1 s a)
         action_keeps names flow here (unit.If test first second) t held = λ s a. then_keeps e calls _ _

@@ -1,5 +1,5 @@
 -- The journal of each run is lawful.
-use Rattle.std.proofs.Common.{◌≡◌, ℕ, zero, suc, ◌+◌, ◌-◌, ◌≤◌, false, List, [], ◌∷◌, length, map}
+use Rattle.std.proofs.Common.{◌≡◌, ℕ, zero, suc, ◌+◌, ◌-◌, ◌≤◌, true, false, List, [], ◌∷◌, length, map}
 use Rattle.std.proofs.Common.{replicate, refl, ap, arith, Option, None, ◌∙◌, length-take, length-drop, length-append}
 use Rattle.std.proofs.lemmas.List.{length-replicate, length-map}
 use Rattle.std.proofs.lemmas.List.Elements.{All-nil, All-cons}
@@ -19,12 +19,16 @@ use Rattle.run_defs.specs.Replay.{IsLawful}
 use Rattle.run_defs.specs.Kept.{At, Keeps, most_objects}
 use Rattle.run_defs.specs.Starts.{Budgets, StaticObject, start_state}
 use Rattle.run_defs.proofs.Following.{at_tick, quiet_closes, keeps_bind, keeps_tick}
-use Rattle.run_defs.specs.KeptSteps.{IsStatic}
+use Rattle.run_defs.specs.Fits.{is_marked}
+use Rattle.run_defs.specs.KeptSteps.{SetsMark, IsStatic}
 use Rattle.run_defs.proofs.Starting.{statics_keep, at_begin, start_size}
+use Rattle.c_core.specs.declared.static_object.Mark.{Mark}
+use Rattle.c_core.specs.declared.static_object.Mark.TheVariants as marks
+use Rattle.c_core.specs.declared.static_object.Seal.{Seal}
 use Rattle.c_core.specs.TreeUnit.{StaticValue, StaticNumber, StaticNull, StaticAddress, StaticFunction, StaticBytes}
 use Rattle.c_core.specs.TreeUnit.{StaticItem, Static, Definition, Program}
 use Rattle.c_core.specs.TypedUnit.{value_size, ItemsTyped, StaticTyped, StaticsTyped}
-use Rattle.code_gen.specs.StaticContents.{with_item, item_bytes, with_items, static_bytes}
+use Rattle.code_gen.specs.StaticContents.{with_item, item_bytes, with_items, static_bytes, mark_of, seal_of}
 use Rattle.code_gen.specs.ProgramFunctions.{environment}
 use Rattle.object_store.specs.declared.pointer.Pointer.{Pointer}
 use Rattle.lib_defs.specs.Reply.{null}
@@ -63,6 +67,15 @@ pub static_long : (program : Program) (fs : List Pos) (ss : List Static) (static
 static_long program fs ss static t =
     items_long program fs ss static.size static.items t.items (replicate static.size 0) (length-replicate static.size 0)
 
+mark_set : (mark : Mark) → is_marked (mark_of mark) ≡ true
+mark_set marks.Literal = refl
+mark_set marks.Const = refl
+
+seals_set : (seals : List Seal) → All SetsMark (map seal_of seals)
+seals_set [] = All-nil SetsMark
+seals_set (seal ∷ rest) =
+    All-cons SetsMark (seal_of seal) (map seal_of rest) (mark_set seal.mark) (seals_set rest)
+
 all_static : (program : Program) (fs : List Pos) (ss statics : List Static) → StaticsTyped fs ss statics
     → All IsStatic (map (static_object program) statics)
 all_static program fs ss [] t = All-nil IsStatic
@@ -71,6 +84,7 @@ all_static program fs ss (first ∷ rest) t = All-cons IsStatic (static_object p
     (record {
       some = omega (arith, static_long program fs ss first t.0, t.0.size.0);
       within = omega (arith, static_long program fs ss first t.0, t.0.size.1);
+      seals = seals_set first.seals;
     })
     (all_static program fs ss rest t.1)
 

@@ -35,6 +35,7 @@ use Rattle.run_defs.specs.Fits.{same_case, same_code, is_quiet, is_told, is_case
 use Rattle.run_defs.specs.Replay.{Phase, Running, Handling, OpenCall, AnyLine, TheEnd, NoLine, Replay, stored_phase}
 use Rattle.run_defs.specs.Replay.{with_phase, step, replay, at_start}
 use Rattle.run_defs.specs.Kept.{Reads, flag_phase, with_flag, seen, most_objects, At, Closes, Keeps}
+use Rattle.run_defs.specs.KeptSteps.{SetsMark}
 use Rattle.run_defs.proofs.Outlines.{outlines-new, outlines-static, next_number-outlines, is_live-outlines}
 use Rattle.run_defs.proofs.Outlines.{has_range-outlines, outlines-dead, outlines-mark, reach-outlines, outlines-stored}
 use Rattle.run_defs.proofs.Outlines.{is_store-outlines}
@@ -118,14 +119,14 @@ module _ (e : Environment) where
     few = rw length-append room;
   }
 
-  pub at_sealed : (s : State) (calls : List OpenCall) (number : ℕ) (seal : Seal) → At e s calls
+  pub at_sealed : (s : State) (calls : List OpenCall) (number : ℕ) (seal : Seal) → SetsMark seal → At e s calls
       → At e (sealed number seal s) calls
-  at_sealed s calls number seal a = cond_both (has_range s.world.store number seal.at seal.len) _ _
+  at_sealed s calls number seal sets a = cond_both (has_range s.world.store number seal.at seal.len) _ _
       (λ s1. At e s1 calls)
       (λ has. record {
         flag = a.flag;
         reads = reads_on s (event.Sealed number seal) (seen e a.flag s calls AnyLine) _ a.reads
-            (cond-true _ _ _ (has_range-outlines s.world.store number seal.at seal.len ∙ has)
+            (cond-true _ _ _ (and_from _ _ sets (has_range-outlines s.world.store number seal.at seal.len ∙ has))
             ∙ ap (λ st. Some (record (seen e a.flag s calls AnyLine) { store = st }))
             (sym (outlines-mark s.world.store number seal.at seal.len seal.mark)));
         world = record {

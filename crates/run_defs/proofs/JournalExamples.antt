@@ -2,7 +2,7 @@
 use Rattle.std.proofs.Common.{◌≡◌, [], ◌∷◌, ◌++◌, refl}
 use Rattle.std.specs.Prelude.{codes, pos}
 use Rattle.object_store.specs.declared.class.Class.TheVariants.{Automatic, Allocated}
-use Rattle.object_store.specs.declared.mark.Mark.TheVariants.{Const}
+use Rattle.object_store.specs.declared.mark.Mark.TheVariants.{Plain, Const, Clash}
 use Rattle.object_store.specs.Reach.{reach_table}
 use Rattle.lib_defs.specs.declared.shown.Shown.TheVariants.{Number, Function}
 use Rattle.run_defs.specs.declared.event.Event.TheVariants as event
@@ -102,6 +102,17 @@ to_const : verdict (begins ++ event.Sealed 6 (record { at = 1; len = 1; mark = C
     ≡ Unlawful 7
 unfolding reach_table
 to_const = refl
+
+-- A seal may change a mark for another, but takes none off.
+seal_again : verdict (begins ++ event.Sealed 4 (record { at = 0; len = 1; mark = Clash }) ∷ exits ∷ [])
+    ≡ Lawful
+unfolding reach_table
+seal_again = refl
+
+seal_plain : verdict (begins ++ event.Sealed 4 (record { at = 0; len = 1; mark = Plain }) ∷ exits ∷ [])
+    ≡ Unlawful 4
+unfolding reach_table
+seal_plain = refl
 
 -- A seal past the end.
 seal_past_end : verdict (begins ++ event.Sealed 6 (record { at = 1; len = 4; mark = Const }) ∷ [])

@@ -3,7 +3,7 @@ use Rattle.std.proofs.Common.{◌≡◌, ℕ, ◌≤◌, ◌<◌, ◌+◌, false
 use Rattle.std.proofs.lemmas.Bool.{cond_both}
 use Rattle.std.specs.Prelude.{codes, Result, Ok, Err}
 use Rattle.std.specs.List.{All}
-use Rattle.std.proofs.lemmas.List.Elements.{All-nil, All-head, All-tail}
+use Rattle.std.proofs.lemmas.List.Elements.{All-nil, All-cons, All-head, All-tail}
 use Rattle.acc_num.specs.declared.kind.IntKind.{IntKind}
 use Rattle.acc_num.specs.Kinds.{bytes_of}
 use Rattle.critical_table.specs.declared.code.Code.{Code}
@@ -21,7 +21,7 @@ use Rattle.run_defs.specs.Functions.{Environment, handler_name}
 use Rattle.run_defs.specs.Starts.{Budgets, StaticObject, empty_state, all_sealed, placed, messages, start_state}
 use Rattle.run_defs.specs.Starts.{statics_placed}
 use Rattle.run_defs.specs.Replay.{OpenCall}
-use Rattle.run_defs.specs.KeptSteps.{IsStatic, RunsKeep}
+use Rattle.run_defs.specs.KeptSteps.{SetsMark, IsStatic, RunsKeep}
 use Rattle.run_defs.specs.Kept.{most_objects, At, Keeps}
 use Rattle.run_defs.proofs.Following.{at_died, stored_keeps, automatic_keeps, entered_keeps, at_left}
 use Rattle.run_defs.proofs.Following.{at_static_made, at_sealed, undefined_closes, keeps_within, keeps_reach}
@@ -45,16 +45,17 @@ module _ (e : Environment) where
       (read_attempt place pointer_size pointer_align) pos s _ a
       (λ is. found_keeps (load_pointer (bytes_at s.world.store place pointer_size)) pos s calls a)
 
-  at_all_sealed : (number : ℕ) (seals : List Seal) (s : State) (calls : List OpenCall) → At e s calls
-      → At e (all_sealed number seals s) calls
-  at_all_sealed number [] s calls a = a
-  at_all_sealed number (seal ∷ seals) s calls a =
-      at_all_sealed number seals (sealed number seal s) calls (at_sealed e s calls number seal a)
+  at_all_sealed : (number : ℕ) (seals : List Seal) → All SetsMark seals → (s : State) (calls : List OpenCall)
+      → At e s calls → At e (all_sealed number seals s) calls
+  at_all_sealed number [] each s calls a = a
+  at_all_sealed number (seal ∷ seals) each s calls a =
+      at_all_sealed number seals (All-tail SetsMark seal seals each) (sealed number seal s) calls
+      (at_sealed e s calls number seal (All-head SetsMark seal seals each) a)
 
   at_placed : (object : StaticObject) (s : State) (calls : List OpenCall) → IsStatic object
       → length s.world.store.objects + 1 + s.ticks ≤ most_objects → At e s calls → At e (placed object s) calls
   at_placed object s calls static room a =
-      at_all_sealed (next_number s.world.store Static) object.seals (static_made object.bytes s) calls
+      at_all_sealed (next_number s.world.store Static) object.seals static.seals (static_made object.bytes s) calls
       (at_static_made e s calls object.bytes static.some static.within room a)
 
   -- an object is placed, and no tick is taken
@@ -89,7 +90,12 @@ module _ (e : Environment) where
       → At e (start_state budgets input handler) []
   unfolding message_bytes
   at_begin budgets input handler name bytes room = at_placed messages (empty_state budgets input handler) []
-      (record { some = omega arith; within = omega arith }) (omega (arith, room))
+      (record {
+        some = omega arith;
+        within = omega arith;
+        seals = All-cons SetsMark _ [] refl (All-nil SetsMark);
+      })
+      (omega (arith, room))
       (record {
         flag = false;
         reads = rw name refl;

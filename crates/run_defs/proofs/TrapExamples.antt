@@ -1,11 +1,11 @@
 -- Journals with a line that does not fit, and the number of that line, from 0: traps, stops and ends.
 use Rattle.std.proofs.Common.{◌≡◌, [], ◌∷◌, ◌++◌, refl}
-use Rattle.std.specs.Prelude.{codes}
+use Rattle.std.specs.Prelude.{codes, pos}
 use Rattle.critical_table.specs.declared.case.Case.TheVariants.{L1, L3, L6, L7, L9, L11}
 use Rattle.critical_table.specs.declared.code.Code.TheVariants.{U01, U05}
 use Rattle.object_store.specs.declared.class.Class.TheVariants.{Allocated}
 use Rattle.object_store.specs.Reach.{reach_table}
-use Rattle.lib_defs.specs.declared.shown.Shown.TheVariants.{Function, Place}
+use Rattle.lib_defs.specs.declared.shown.Shown.TheVariants.{Number, Function, Place, NoValue}
 use Rattle.run_defs.specs.declared.event.Event.TheVariants as event
 use Rattle.run_defs.specs.declared.outcome.End.TheVariants as end
 use Rattle.run_defs.specs.Judge.{Lawful, Unlawful, verdict}
@@ -106,6 +106,23 @@ released_null : verdict (begins ++ event.Called (row 46) [] ∷ event.ValueFaile
     ≡ Unlawful 5
 unfolding reach_table
 released_null = refl
+
+-- free of a function; of a number and of no value, which are no pointers.
+released_function : verdict (begins ++ event.Called (row 46) [] ∷ event.ValueFailed L9 at_two (Function (codes "g"))
+    ∷ event.Ended (end.Trapped L9) ∷ [])
+    ≡ Lawful
+unfolding reach_table
+released_function = refl
+
+released_number : verdict (begins ++ event.Called (row 46) [] ∷ event.ValueFailed L9 at_two (Number (pos 6)) ∷ [])
+    ≡ Unlawful 5
+unfolding reach_table
+released_number = refl
+
+released_nothing : verdict (begins ++ event.Called (row 46) [] ∷ event.ValueFailed L9 at_two NoValue ∷ [])
+    ≡ Unlawful 5
+unfolding reach_table
+released_nothing = refl
 
 -- free of an allocated object that is dead, or that lives.
 released_twice : verdict (begins ++ event.Made 9 1 Allocated ∷ event.Died 9 ∷ event.Called (row 46) []

@@ -70,6 +70,7 @@ abbrev pub is_made : Storage → ℕ → ℕ → Class → Bool
 is_made store number size class =
     (number == next_number store class) && (nat_le 1 size && nat_le size rsize_max)
 
+-- whether a byte with this mark is kept from stores
 abbrev pub is_marked : Mark → Bool
 is_marked Plain = false
 is_marked _ = true
@@ -110,10 +111,12 @@ abbrev pub is_call_trap : Case → Shown → Bool
 is_call_trap case value =
     (same_case case L3 && is_function value) || (same_case case L6 && not (is_function value))
 
--- the case of a release of this value, if it is one; a function's place is no object's
+-- the case of a release of this value, if it is one; a function's place is no object's, and nothing but a pointer is
+-- released
 abbrev pub release_trap : Storage → Shown → Option Case
 release_trap store (Place object offset) = release_case store (record null { object = object; offset = offset })
-release_trap store _ = Some L9
+release_trap store (Function name) = Some L9
+release_trap store _ = None
 
 -- what a row tests of its first argument: free and realloc a release; set_constraint_handler_s that it is a function
 abbrev pub is_row_trap : Storage → Case → Shown → Row → Bool

@@ -1,5 +1,5 @@
 -- The start of a run and the steps of a unit keep the journal lawful.
-use Rattle.std.specs.Prelude.{◌≡◌, ℕ, ◌+◌, ◌<◌, ◌≤◌, List, [], length, codes}
+use Rattle.std.specs.Prelude.{◌≡◌, ℕ, ◌+◌, ◌<◌, ◌≤◌, true, List, [], length, codes}
 use Rattle.std.specs.List.{All}
 use Rattle.acc_num.specs.declared.kind.IntKind.{IntKind}
 use Rattle.critical_table.specs.declared.code.Code.{Code}
@@ -16,13 +16,19 @@ use Rattle.run_defs.specs.Evaluation.{stored, automatic_made, call_entered}
 use Rattle.run_defs.specs.Loads.{number_loaded, pointer_loaded}
 use Rattle.run_defs.specs.Functions.{Environment, handler_name}
 use Rattle.run_defs.specs.Starts.{Budgets, StaticObject, start_state, statics_placed}
+use Rattle.run_defs.specs.Fits.{is_marked}
 use Rattle.run_defs.specs.Replay.{OpenCall}
 use Rattle.run_defs.specs.Kept.{most_objects, At, Closes, Keeps}
 
--- a static object has a size that a store makes
+-- a seal that gives its bytes a mark
+abbrev pub SetsMark : Seal → Type 0
+SetsMark seal = is_marked seal.mark ≡ true
+
+-- a static object has a size that a store makes, and its seals set marks
 pub record IsStatic (object : StaticObject) : Type 0 where
   pub some : 1 ≤ length object.bytes
   pub within : length object.bytes ≤ rsize_max
+  pub seals : All SetsMark object.seals
 
 -- The handler at the start is abort_handler_s; no more objects are made than a run may have.
 pub record StartIsLawful (e : Environment) : Type 0 where
@@ -46,7 +52,7 @@ pub record StepsAreLawful (e : Environment) : Type 0 where
       → Keeps e calls (stored align p pos s)
   pub make : (size : ℕ) (s : State) (calls : List OpenCall) → 1 ≤ size → size ≤ rsize_max → At e s calls
       → Keeps e calls (automatic_made size s)
-  pub seal : (s : State) (calls : List OpenCall) (number : ℕ) (marks : Seal) → At e s calls
+  pub seal : (s : State) (calls : List OpenCall) (number : ℕ) (marks : Seal) → SetsMark marks → At e s calls
       → At e (sealed number marks s) calls
   pub die : (s : State) (calls : List OpenCall) (number : ℕ) → At e s calls → At e (died number s) calls
   pub enter : (s : State) (calls : List OpenCall) → At e s calls → Keeps e calls (call_entered s)

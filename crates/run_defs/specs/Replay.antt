@@ -19,8 +19,8 @@ use Rattle.run_defs.specs.declared.outcome.End.{End}
 use Rattle.run_defs.specs.declared.outcome.End.TheVariants.{Trapped, Undefined}
 use Rattle.run_defs.specs.State.{has_range}
 use Rattle.run_defs.specs.RowKinds.{is_setter, is_printer}
-use Rattle.run_defs.specs.Fits.{same_case, same_row, same_write, is_failure, is_function, is_made, is_store, is_told}
-use Rattle.run_defs.specs.Fits.{is_quiet, is_case, is_call_trap, is_row_trap}
+use Rattle.run_defs.specs.Fits.{same_case, same_row, same_write, is_failure, is_function, is_made, is_marked, is_store}
+use Rattle.run_defs.specs.Fits.{is_told, is_quiet, is_case, is_call_trap, is_row_trap}
 
 -- An open call runs, with a store so far or without; or its handler does, since the constraint with this number is
 -- violated.
@@ -131,7 +131,7 @@ abbrev pub any_line : Replay → Event → Option Replay
 any_line r (event.Made object size class) =
     when (is_made r.store object size class) (record r { store = with_new r.store size class })
 any_line r (event.Sealed object seal) =
-    when (has_range r.store object seal.at seal.len)
+    when (is_marked seal.mark && has_range r.store object seal.at seal.len)
     (record r { store = with_mark r.store object seal.at seal.len seal.mark })
 any_line r (event.Stored write) = when (is_store r.store write) (record r { calls = with_phase stored_phase r.calls })
 any_line r (event.Died object) = when (is_live r.store object) (record r { store = with_dead r.store object })
