@@ -6,3 +6,5 @@ pub mod constants;
 pub mod items;
 pub mod literals;
 pub mod seals;
+#[cfg(test)]
+mod tests;
