@@ -20,9 +20,9 @@ use Rattle.c_type_rules.specs.Members.{member_rule, no_member_rule}
 use Rattle.c_type_rules.specs.Qualified.{quals_of_words}
 use Rattle.c_type_rules.specs.declared.context.Context.{Context}
 use Rattle.c_type_rules.specs.declared.context.Setting.TheVariants as setting
-use Rattle.c_expr_rules.specs.Assignment.{postfix_rule}
+use Rattle.c_operator_rules.specs.Assignment.{postfix_rule}
 use Rattle.c_expr_rules.specs.Calls.{call_rule}
-use Rattle.c_expr_rules.specs.Conditional.{conditional_rule}
+use Rattle.c_operator_rules.specs.Conditional.{conditional_rule}
 use Rattle.c_expr_rules.specs.Members.{dot_rule, arrow_rule}
 use Rattle.c_expr_rules.specs.Pointers.{index_rule}
 use Rattle.c_expr_rules.specs.Primary.{literal_rule, name_rule}

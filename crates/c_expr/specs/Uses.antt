@@ -11,11 +11,11 @@ use Rattle.c_syntax.specs.declared.operator.Prefix.TheVariants as front
 use Rattle.c_scopes.specs.Env.{Env}
 use Rattle.c_conversions.specs.Parts.{Part, value}
 use Rattle.c_conversions.specs.Versions.{is_void}
-use Rattle.c_expr_rules.specs.Assignment.{assigned_rule, assign_rule, compound_rule, prefix_rule}
-use Rattle.c_expr_rules.specs.Binary.{binary_rule, and_rule, or_rule}
+use Rattle.c_operator_rules.specs.Assignment.{assigned_rule, assign_rule, compound_rule, prefix_rule}
+use Rattle.c_operator_rules.specs.Binary.{binary_rule, and_rule, or_rule}
 use Rattle.c_expr_rules.specs.Casts.{cast_rule}
-use Rattle.c_expr_rules.specs.Comparisons.{comparison_rule}
-use Rattle.c_expr_rules.specs.Conditional.{comma_part}
+use Rattle.c_operator_rules.specs.Comparisons.{comparison_rule}
+use Rattle.c_operator_rules.specs.Conditional.{comma_part}
 use Rattle.c_expr_rules.specs.Pointers.{address_rule, deref_rule}
 use Rattle.c_expr_rules.specs.Unary.{size_of_rule}
 use Rattle.c_expr_rules.specs.Uses.{used_rule, value_rule, test_rule, discard_rule}

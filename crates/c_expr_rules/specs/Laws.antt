@@ -2,7 +2,6 @@
 use Rattle.std.specs.Prelude.{ℕ, Bool, List}
 use Rattle.c_types.specs.CType.{CType}
 use Rattle.c_types.specs.Structures.{Structure}
-use Rattle.c_core.specs.declared.operator.Operator.{Operator}
 use Rattle.c_core.specs.Tree.{Cores}
 use Rattle.c_scopes.specs.Ruled.{Rises}
 use Rattle.c_conversions.specs.Parts.{Part}
@@ -11,11 +10,6 @@ use Rattle.c_expr_rules.specs.Primary.{literal_demands}
 use Rattle.c_expr_rules.specs.Unary.{sign_demands, not_demands, measure_demands, size_of_demands}
 use Rattle.c_expr_rules.specs.Pointers.{address_demands, deref_demands, index_demands}
 use Rattle.c_expr_rules.specs.Members.{dot_demands, arrow_demands}
-use Rattle.c_expr_rules.specs.Binary.{arithmetic_demands, add_demands, subtract_demands, logical_demands}
-use Rattle.c_expr_rules.specs.Comparisons.{relational_demands, equality_demands}
-use Rattle.c_expr_rules.specs.Conditional.{conditional_demands}
-use Rattle.c_expr_rules.specs.Assignment.{convert_demands, assigned_demands, assign_demands, compound_demands}
-use Rattle.c_expr_rules.specs.Assignment.{step_demands}
 use Rattle.c_expr_rules.specs.Casts.{cast_demands}
 use Rattle.c_expr_rules.specs.Calls.{pass_demands, further_demands, call_demands}
 
@@ -34,19 +28,6 @@ pub record ListsRise : Type 0 where
   pub index : (structures : List Structure) (left right : Part) → Rises (index_demands structures left right)
   pub dot : (structures : List Structure) (name : List ℕ) (part : Part) → Rises (dot_demands structures name part)
   pub arrow : (structures : List Structure) (name : List ℕ) (part : Part) → Rises (arrow_demands structures name part)
-  pub arithmetic : (left right : Part) → Rises (arithmetic_demands left right)
-  pub add : (structures : List Structure) (left right : Part) → Rises (add_demands structures left right)
-  pub subtract : (structures : List Structure) (left right : Part) → Rises (subtract_demands structures left right)
-  pub logical : (left right : Part) → Rises (logical_demands left right)
-  pub relational : (left right : Part) → Rises (relational_demands left right)
-  pub equality : (left right : Part) → Rises (equality_demands left right)
-  pub conditional : (left right : Part) → Rises (conditional_demands left right)
-  pub convert : (type : CType) (part : Part) → Rises (convert_demands type part)
-  pub assigned : (structures : List Structure) (target part : Part) → Rises (assigned_demands structures target part)
-  pub assign : (structures : List Structure) (target : Part) → Rises (assign_demands structures target)
-  pub compound : (structures : List Structure) (operator : Operator) (target right : Part)
-      → Rises (compound_demands structures operator target right)
-  pub step : (structures : List Structure) (target : Part) → Rises (step_demands structures target)
   pub cast : (type : CType) (part : Part) → Rises (cast_demands type part)
   pub pass : (type : CType) (part : Part) → Rises (pass_demands type part)
   pub further : (part : Part) → Rises (further_demands part)

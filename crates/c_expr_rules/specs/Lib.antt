@@ -5,10 +5,6 @@ pub mod Primary
 pub mod Unary
 pub mod Pointers
 pub mod Members
-pub mod Binary
-pub mod Comparisons
-pub mod Conditional
-pub mod Assignment
 pub mod Casts
 pub mod Calls
 pub mod Laws

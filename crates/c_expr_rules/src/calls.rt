@@ -125,19 +125,19 @@ fn call_at(
     types: &TypeTable,
     at: (TypeId, Pos),
     how: (bool, Option<Content>),
-    called: (CoreExpr, Vec<CoreExpr>),
+    called: Called,
 ) -> Result<Operand, AllocError>
     requires of { IdIn types.now at.0 }
-    requires function { CoreIn types.now called.0 }
-    requires arguments { CoresIn types.now called.1.items }
+    requires function { PartIn types.now called.function }
+    requires arguments { CoresIn types.now called.arguments.items }
     ensures { IfOk result (Makes part_of PartIn (part.value (At (type_of types.now at.0) at.1 (tree.Call how.0 how.1
-        (core_of types.now called.0) (cores (map (core_of types.now) called.1.items))))) types.now types.now) }
+        (part_of types.now called.function).core (cores (map (core_of types.now) called.arguments.items)))))
+        types.now types.now) }
 {
     let (of, pos) = at;
     let (used, gives) = how;
-    let (function, arguments) = called;
-    let function = Box::new(types.alloc(), function)?;
-    let node = CoreNode::Call(used, gives, function, arguments);
+    let function = Box::new(types.alloc(), called.function.core)?;
+    let node = CoreNode::Call(used, gives, function, called.arguments);
     Ok(value(CoreExpr { of, pos, node }))
 }
 
@@ -154,14 +154,9 @@ fn call_value(
         (part_of types.now called.function) (cores (map (core_of types.now) called.arguments.items)))
         types.now types.now) }
 {
-    let Called {
-        function,
-        arguments,
-    } = called;
-    let of = result_type(types, target(types, function.core.of));
+    let of = result_type(types, target(types, called.function.core.of));
     let gives = or_nothing(given(types, of));
     let used = used && gives.is_some();
-    let called = (function.core, arguments);
     let made = call_at(types, (of, pos), (used, gives), called)?;
     Ok(made)
 }

@@ -12,7 +12,7 @@ pub struct Operands {
 }
 
 /// An expression that is no object.
-pub(crate) fn value(core: CoreExpr) -> Operand
+pub fn value(core: CoreExpr) -> Operand
     ensures { result ≡ record { category = Category.Value; null = false; core = core } }
 {
     Operand {
@@ -23,7 +23,7 @@ pub(crate) fn value(core: CoreExpr) -> Operand
 }
 
 /// An lvalue that designates no object declared with `register`.
-pub(crate) fn lvalue(core: CoreExpr) -> Operand
+pub fn lvalue(core: CoreExpr) -> Operand
     ensures { result ≡ record { category = Category.Lvalue false; null = false; core = core } }
 {
     Operand {

@@ -181,7 +181,7 @@ fn may_index(types: &TypeTable, pointer: TypeId, number: TypeId) -> bool
 
 /// A pointer, and the number by which it moves.
 #[derive(Drop)]
-pub(crate) struct Movement {
+pub struct Movement {
     pub pointer: CoreExpr,
     pub number: CoreExpr,
     /// The number is taken off.
@@ -191,7 +191,7 @@ pub(crate) struct Movement {
 
 /// A pointer that has moved by a number of elements.
 #[tactic(auto, using(c_scopes::proofs::Keeps::keeps_own))]
-pub(crate) fn moved(types: &TypeTable, pos: Pos, movement: Movement) -> Result<CoreExpr, AllocError>
+pub fn moved(types: &TypeTable, pos: Pos, movement: Movement) -> Result<CoreExpr, AllocError>
     requires pointer { CoreIn types.now movement.pointer }
     requires number { CoreIn types.now movement.number }
     ensures { IfOk result (Makes core_of CoreIn (rule.moved (structures_of types.now) pos movement.back

@@ -12,7 +12,7 @@ use c_core::Stride;
 use c_types::{Basic, Layout, TypeId, TypeTable};
 
 /// The basic type of an integer type; `int` stands for others.
-pub(crate) fn basic(types: &TypeTable, id: TypeId) -> Basic
+pub fn basic(types: &TypeTable, id: TypeId) -> Basic
     requires { id.0 < count_of types.now }
     ensures { result ≡ rule.basic_in (type_of types.now id) }
 {
@@ -23,7 +23,7 @@ pub(crate) fn basic(types: &TypeTable, id: TypeId) -> Basic
 }
 
 /// What a pointer type points to; `void` stands for others.
-pub(crate) fn target(types: &TypeTable, id: TypeId) -> TypeId
+pub fn target(types: &TypeTable, id: TypeId) -> TypeId
     requires { id.0 < count_of types.now }
     ensures is_there { result.0 < count_of types.now }
     ensures stands_for { type_of types.now result ≡ rule.target_of (type_of types.now id) }
@@ -45,7 +45,7 @@ pub(crate) fn align(layout: Option<Layout>) -> u32
 }
 
 /// The type is complete, and so no function type (6.2.5p1).
-pub(crate) fn is_complete(types: &TypeTable, id: TypeId) -> bool
+pub fn is_complete(types: &TypeTable, id: TypeId) -> bool
     requires { id.0 < count_of types.now }
     ensures { result ≡ rule.is_complete (type_of types.now id) (structures_of types.now) }
 {
@@ -53,7 +53,7 @@ pub(crate) fn is_complete(types: &TypeTable, id: TypeId) -> bool
 }
 
 /// A pointer of that type may move; other types don't move.
-pub(crate) fn may_move(types: &TypeTable, id: TypeId) -> bool
+pub fn may_move(types: &TypeTable, id: TypeId) -> bool
     requires { id.0 < count_of types.now }
     ensures { result ≡ rule.may_move (structures_of types.now) (type_of types.now id) }
 {
@@ -61,7 +61,7 @@ pub(crate) fn may_move(types: &TypeTable, id: TypeId) -> bool
 }
 
 /// How a pointer of that type moves, forwards or back.
-pub(crate) fn stride(types: &TypeTable, id: TypeId, back: bool) -> Stride
+pub fn stride(types: &TypeTable, id: TypeId, back: bool) -> Stride
     requires { id.0 < count_of types.now }
     ensures { result ≡ rule.stride (structures_of types.now) (type_of types.now id) back }
 {

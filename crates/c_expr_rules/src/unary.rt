@@ -130,7 +130,7 @@ pub fn align_of_type(types: &TypeTable, pos: Pos, of: TypeId) -> Result<Operand,
 }
 
 /// The expression designates a function.
-pub(crate) fn is_designator(category: Category) -> bool
+pub fn is_designator(category: Category) -> bool
     ensures { result ≡ rule.is_designator category }
 {
     match category {

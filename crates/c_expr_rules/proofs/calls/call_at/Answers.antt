@@ -1,3 +1,4 @@
+-- The arguments of the node are those of the list.
 use Rattle.std.proofs.Common.{◌≡◌, map, sym, ◌∙◌, subst}
 use Rattle.c_types.specs.CType.{type_of}
 use Rattle.c_core.specs.Ids.{CoreIn}
@@ -12,11 +13,11 @@ pub returns : goal.returns
 returns c =
     let types = c.args.types.now in
     let how = c.args.how in
-    let arguments = c.args.called.1 in
+    let arguments = c.args.called.arguments in
     let function = c.in_ok-function.function in
     let made = c.value.ensures in
     let held = c.in_ok-function.ensures.ok in
-    let same : function.value ≡ c.args.called.0 = cc in
+    let same : function.value ≡ c.args.called.function.core = cc in
     let node = call_of types how.0 how.1 function arguments in
     let of = type_of types c.args.at.0 in
     record {

@@ -1,3 +1,4 @@
+-- The number is what it was before the type was made.
 use Rattle.c_types.specs.CType.{type_of}
 use Rattle.c_types.specs.Qualified.{without_quals}
 use Rattle.c_core.specs.Tree.{At, Convert}

@@ -1,3 +1,4 @@
+-- The pointer is what it was before the type was made.
 use Rattle.c_core.specs.Tree.{At}
 use Rattle.c_conversions.specs.Converting.{is_null, pointer_node}
 use Rattle.c_conversions.specs.Parts.{Part}

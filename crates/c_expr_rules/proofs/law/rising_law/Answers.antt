@@ -1,3 +1,4 @@
+-- The numbers of each list, one below the next.
 use Rattle.std.proofs.Common.{arith}
 use Rattle.c_expr_rules.proofs.law.rising_law.Goals as goal
 
@@ -17,18 +18,6 @@ returns c = record {
   index = λ structures left right. (tt, tt);
   dot = λ structures name part. (tt, tt);
   arrow = λ structures name part. (tt, tt);
-  arithmetic = λ left right. (tt, tt);
-  add = λ structures left right. ((omega arith, tt), (tt, tt));
-  subtract = λ structures left right. ((omega arith, tt), (tt, tt));
-  logical = λ left right. (tt, tt);
-  relational = λ left right. (tt, tt);
-  equality = λ left right. (tt, tt);
-  conditional = λ left right. (tt, tt);
-  convert = λ type part. (tt, tt);
-  assigned = λ structures target part. (tt, tt);
-  assign = λ structures target. (tt, tt);
-  compound = λ structures operator target right. ((omega arith, (omega arith, tt)), ((omega arith, tt), (tt, tt)));
-  step = λ structures target. ((omega arith, (omega arith, tt)), ((omega arith, tt), (tt, tt)));
   cast = λ type part. (tt, tt);
   pass = λ type part. (tt, tt);
   further = λ part. (tt, tt);

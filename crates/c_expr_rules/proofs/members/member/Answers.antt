@@ -1,3 +1,4 @@
+-- The whole is what it was before the type of the member was made.
 use Rattle.c_types.specs.CType.{type_of}
 use Rattle.c_types.specs.Qualified.{with_quals}
 use Rattle.c_core.specs.Tree.{At, Member}

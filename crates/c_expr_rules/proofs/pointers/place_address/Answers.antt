@@ -1,3 +1,4 @@
+-- The place is what it was before the type was made.
 use Rattle.c_core.specs.Tree.{At, AddressOf}
 use Rattle.c_conversions.proofs.Keeping.{core_there, core_stays, over}
 use Rattle.c_expr_rules.proofs.pointers.place_address.Goals as goal
