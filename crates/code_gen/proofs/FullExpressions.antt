@@ -22,7 +22,8 @@ use Rattle.vm_code.specs.Slots.{Held, held_in, without, numbers, all_died}
 use Rattle.code_gen.specs.Evaluating.{Evaluates, full}
 use Rattle.code_gen.specs.ExpressionCode.{on}
 use Rattle.code_gen.specs.StatementCode.{kills, slots_down}
-use Rattle.code_gen.specs.RunLaw.{HasKind, pushed, AreValues, AreBelow, Comes, Reaches, StandAt, Left, Running, stands_at, standing}
+use Rattle.code_gen.specs.RunLaw.{HasKind, pushed, AreValues, AreBelow, Comes, Reaches, StandAt, Left, Running}
+use Rattle.code_gen.specs.RunLaw.{stands_at, standing}
 use Rattle.code_gen.proofs.Going.{comes_on, comes_same, one_step, sees, reaches_from, reaches_gives, reaches_bind}
 use Rattle.code_gen.proofs.PlainParts.{IsLeftAs, number_left}
 use Rattle.code_gen.proofs.PlainStretches as stretch
@@ -108,7 +109,8 @@ module _ (it : Running) where
       (comes_on e code _ _ _ (values_die low n [] answered (at + 1) operands position s below tt stands.1)
       (comes_same e code _ _ (ap (λ k. here [] answered k operands s) same)))
   values_die low (suc n) (h ∷ objects) answered at operands position s below are stands =
-      by_slot (h.slot == low + n) refl (λ objects1 s1 are1. values_die low n objects1 answered (at + 1) operands position
+      by_slot (h.slot == low + n) refl (λ objects1 s1 are1. values_die low n objects1 answered (at + 1) operands
+      position
       s1 below are1 stands.1)
     where
       same : at + 1 + n ≡ at + suc n

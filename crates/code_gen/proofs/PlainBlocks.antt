@@ -78,7 +78,8 @@ module _ (it : Running) (names : Names) (flow : FlowTyped) (around : Around) (in
       (comes_same it.environment it.code _ _
       (ap (λ k. stands_at it [] answered1 k [] (all_died (numbers made) s)) long))
   block_left next position stands Broke answered1 s = comes_same it.environment it.code _ _
-      (ap (λ s1. standing (record it.frame { held = inside.breaks.others; answered = answered1 }) it.rest around.behind []
+      (ap (λ s1. standing (record it.frame { held = inside.breaks.others; answered = answered1 }) it.rest
+      around.behind []
       s1) (parts.died_both made inside.breaks.left s))
   block_left next position stands Continued answered1 s = comes_same it.environment it.code _ _
       (ap (λ s1. standing (record it.frame { held = inside.continues.others; answered = answered1 }) it.rest

@@ -26,7 +26,8 @@ use Rattle.code_gen.proofs.PlainActions as actions
 use Rattle.code_gen.proofs.PlainBlocks as blocks
 use Rattle.code_gen.proofs.PlainPieces as pieces_of
 use Rattle.code_gen.proofs.PlainStretches as stretch
-use Rattle.code_gen.proofs.StatementLengths.{full_long, statement_long, items_long, makes_long, items_size_at, left_long}
+use Rattle.code_gen.proofs.StatementLengths.{full_long, statement_long, items_long, makes_long, items_size_at}
+use Rattle.code_gen.proofs.StatementLengths.{left_long}
 use Rattle.code_gen.proofs.StatementLengths.{left_again_long}
 
 module _ (program : Program) (table : List Through) (call : Call) where
@@ -80,9 +81,11 @@ module _ (program : Program) (table : List Through) (call : Call) where
         flow inner (blocks.inside_block it names flow around inside locals made answered are) items t.1 plain (at + n)
         text (stand_back it.code it.function at n a b long_a both) answered s1))
     action_runs it names flow around inside here (unit.Zero slot size) t plain at text stands answered s = absurd plain
-    action_runs it names flow around inside here (unit.Initialize slot byte content core) t plain at text stands answered s =
+    action_runs it names flow around inside here (unit.Initialize slot byte content core) t plain at text stands
+        answered s =
         absurd plain
-    action_runs it names flow around inside here (unit.InitializeBytes slot byte bytes) t plain at text stands answered s =
+    action_runs it names flow around inside here (unit.InitializeBytes slot byte bytes) t plain at text stands
+        answered s =
         absurd plain
     action_runs it names flow around inside here (unit.SealBytes slot byte len) t plain at text stands answered s =
         actions.seal_runs program table call it names flow around inside slot byte len here at answered s t.1 stands
@@ -137,8 +140,10 @@ module _ (program : Program) (table : List Through) (call : Call) where
         answered1 s1))
     action_runs it names flow around inside here (unit.While test body) t plain at text stands answered s = absurd plain
     action_runs it names flow around inside here (unit.Do body test) t plain at text stands answered s = absurd plain
-    action_runs it names flow around inside here (unit.For test step body) t plain at text stands answered s = absurd plain
-    action_runs it names flow around inside here (unit.Switch core locals items cases default) t plain at text stands answered s =
+    action_runs it names flow around inside here (unit.For test step body) t plain at text stands answered s = absurd
+        plain
+    action_runs it names flow around inside here (unit.Switch core locals items cases default) t plain at text stands
+        answered s =
         absurd plain
     action_runs it names flow around inside here unit.Break t plain at text stands answered s =
         actions.break_runs program table call it names flow around inside here at _ answered s stands
@@ -149,7 +154,8 @@ module _ (program : Program) (table : List Through) (call : Call) where
     action_runs it names flow around inside here (unit.ReturnValue core) t plain at text stands answered s =
         actions.return_value_runs program table call it names flow around inside core here at _ answered s t.0 t.1 plain
         stands
-    action_runs it names flow around inside here (unit.ReturnWhole size core) t plain at text stands answered s = absurd plain
+    action_runs it names flow around inside here (unit.ReturnWhole size core) t plain at text stands answered s =
+        absurd plain
 
     items_runs : (it : Running) (names : Names) (flow : FlowTyped) (around : Around)
         (inside : Inside it names flow around) (items : Statements) → StatementsTyped names flow items → ArePlain items

@@ -1,5 +1,6 @@
 -- The machine does what statements without calls, loops, `switch` and strings mean.
-use Rattle.std.proofs.Common.{◌≡◌, ◌∙◌, ℕ, ◌+◌, ◌<◌, ◌≤◌, ◌==◌, Bool, true, false, cond, List, [], ◌∷◌, ◌++◌, refl, ap, sym}
+use Rattle.std.proofs.Common.{◌≡◌, ◌∙◌, ℕ, ◌+◌, ◌<◌, ◌≤◌, ◌==◌, Bool, true, false, cond, List, [], ◌∷◌, ◌++◌, refl}
+use Rattle.std.proofs.Common.{ap, sym}
 use Rattle.std.proofs.Common.{subst, arith, map, length, reverse, Some, append_assoc}
 use Rattle.std.proofs.lemmas.List.{length-map, reverse-append}
 use Rattle.std.specs.Prelude.{unwrap_or}
@@ -22,7 +23,8 @@ use Rattle.code_gen.specs.ExpressionCode.{on}
 use Rattle.code_gen.specs.RunLaw.{IsAround, Comes, StandAt, Running, stands_at, standing}
 use Rattle.code_gen.specs.StatementCode.{kills, makes, slots_of}
 use Rattle.code_gen.specs.StatementRunLaw.{OnTop, jumped}
-use Rattle.code_gen.proofs.Going.{Does, comes_on, comes_same, one_step, stand_front, stand_back, does_bind, does_gives, does_fits}
+use Rattle.code_gen.proofs.Going.{Does, comes_on, comes_same, one_step, stand_front, stand_back, does_bind}
+use Rattle.code_gen.proofs.Going.{does_gives, does_fits}
 use Rattle.code_gen.proofs.Lengths.{on_long}
 use Rattle.code_gen.proofs.FullExpressions as full
 use Rattle.code_gen.proofs.PlainStretches as stretch

@@ -45,7 +45,8 @@ pub values_widen : (low high more : ℕ) (objects : List Held) → high ≤ more
 values_widen low high more [] up are = tt
 values_widen low high more (h ∷ rest) up are = (are.0, omega (arith, are.1, up), are.2)
 
-abbrev pub holding_more : (low high more : ℕ) (made : List ℕ) → high ≤ more → Holding low high made → Holding low more made
+abbrev pub holding_more : (low high more : ℕ) (made : List ℕ) → high ≤ more → Holding low high made → Holding low
+    more made
 holding_more low high more made up now = record {
   objects = now.objects;
   slots = values_widen low high more now.objects up now.slots;
@@ -250,7 +251,8 @@ module _ (it : Running) (low : ℕ) where
       (one_step (beside it now.objects now.answered) at operands s instr position stands.0)
       (reaches_gives e code _ (record { value = v; made = made }) s (Left g low (slot + 0))
       (Leads g (slot + 0) (at + 1) operands)
-      (record { kind = has; now = holding_more low slot (slot + 0) made (omega arith) now }) (acts now.objects now.answered operands s now.slots))
+      (record { kind = has; now = holding_more low slot (slot + 0) made (omega arith) now }) (acts now.objects
+      now.answered operands s now.slots))
 
   -- by a number: to one place where it is 0, and else to the next
   pub fork_does : {slot next : ℕ} (x y : Evaluates) (g : Form) (at to there : ℕ) (position : Pos)

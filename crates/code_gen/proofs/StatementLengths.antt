@@ -69,7 +69,8 @@ module _ (locals : List Local) (around : Around) where
   pub left_again_long : length (within_block locals around).left_again ≡ length around.left_again + length locals
   left_again_long = omega (arith, length-append (reverse (slots_of locals)) around.left_again, slots_long locals)
 
-pub items_size_at : (items : Statements) (l l2 a a2 : ℕ) → l ≡ l2 → a ≡ a2 → items_size l a items ≡ items_size l2 a2 items
+pub items_size_at : (items : Statements) (l l2 a a2 : ℕ) → l ≡ l2 → a ≡ a2 → items_size l a items ≡ items_size l2 a2
+    items
 items_size_at items l l2 a a2 e f = ap (λ n. items_size n a items) e ∙ ap (λ n. items_size l2 n items) f
 
 module _ (program : Program) (table : List Through) where

@@ -156,7 +156,8 @@ module _ (it : Running) (low : ℕ) where
         (λ x s1 left.
         let l : (p : Pointer) × IsLeftAs (form_of operand) x.value (Ptr p) =
         pointer_left (form_of operand) x.value (a_place (form_of operand) is_place) left.kind in
-        subst (λ v. Reaches e code (here left.now.objects left.now.answered k (pushed (form_of operand) x.value operands)
+        subst (λ v. Reaches e code (here left.now.objects left.now.answered k (pushed (form_of operand) x.value
+        operands)
         s1) (argument_object size (pointer_in v) position x.made s1) (Left form.Place low last)
         (stretch.Leads it low form.Place last there operands)) (sym l.1.value_is)
         (subst (λ ops. Reaches e code (here left.now.objects left.now.answered k ops s1)
