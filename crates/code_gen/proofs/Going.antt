@@ -7,10 +7,21 @@ use Rattle.run_defs.specs.Evaluation.{Evaluation, Gives, Stops, bind}
 use Rattle.run_defs.specs.Functions.{Environment}
 use Rattle.vm_code.specs.declared.instr.Instr.{Instr}
 use Rattle.vm_code.specs.declared.parts.CodeFunction.{CodeFunction}
-use Rattle.vm_code.specs.Contents.{Contents, function_at}
-use Rattle.vm_code.specs.Frames.{Activation, Frame, Place, after}
+use Rattle.vm_code.specs.Contents.{Contents}
+use Rattle.vm_code.specs.Frames.{Activation, Frame, Place, Ends, after}
 use Rattle.vm_code.specs.Machine.{Context, act, fetched, acts, step_in, run}
-use Rattle.code_gen.specs.RunLaw.{IfGives, Comes, Does, StandAt, standing}
+use Rattle.code_gen.specs.RunLaw.{Comes, Reaches, Running, StandAt, standing}
+
+-- of the value and the state that an evaluation gives
+abbrev pub IfGives : {A : Type 0} → (A → Type 0) → Evaluation A → Type 0
+IfGives P (Gives value s) = P value
+IfGives P (Stops outcome s) = Unit {0}
+
+-- From a place the machine does what an evaluation does, where the value alone says where it leads.
+pub record Does {A : Type 0} (e : Environment) (code : Contents) (from : Place) (evaluation : Evaluation A)
+    (to : A → State → Place) (fits : A → Type 0) : Type 0 where
+  pub comes : Comes e code from (after evaluation to)
+  pub fit : IfGives fits evaluation
 
 module _ (code : Contents) (function : CodeFunction) where
   pub stand_front : (at : ℕ) (a b : List (Instr × Pos)) → StandAt code function at (a ++ b) → StandAt code function at a
@@ -69,14 +80,51 @@ module _ (e : Environment) (code : Contents) where
       → p ≡ to v s → fits v → Does e code p (Gives v s) to fits
   does_gives p v s to fits same fit = record { comes = comes_same p (to v s) same; fit = fit }
 
--- a function that runs, with its activation and the frames around it
-pub record Running : Type 0 where
-  pub environment : Environment
-  pub code : Contents
-  pub function : CodeFunction
-  pub frame : Activation
-  pub rest : List Frame
-  pub own : function_at code.functions frame.function ≡ Some function
+-- ---- where what is left says where the value leads
+
+module _ (e : Environment) (code : Contents) where
+  pub reaches_from : {A : Type 0} (p p1 : Place) (x : Evaluation A) (Left : A → Type 0)
+      (to : (v : A) → Left v → State → Place) → Comes e code p p1 → Reaches e code p1 x Left to
+      → Reaches e code p x Left to
+  reaches_from p p1 (Gives v s) Left to c r = let a = r.arrives in record {
+    arrives = (a.0, comes_on e code p p1 (to v a.0 s) c a.1);
+  }
+  reaches_from p p1 (Stops outcome s) Left to c r =
+      record { arrives = comes_on e code p p1 (Ends outcome s) c r.arrives }
+
+  pub reaches_gives : {A : Type 0} (p : Place) (v : A) (s : State) (Left : A → Type 0)
+      (to : (v : A) → Left v → State → Place) (left : Left v) → p ≡ to v left s
+      → Reaches e code p (Gives v s) Left to
+  reaches_gives p v s Left to left same = record { arrives = (left, comes_same e code p (to v left s) same) }
+
+  -- one thing after another
+  pub reaches_bind : {A B : Type 0} (p : Place) (x : Evaluation A) (next : A → State → Evaluation B)
+      (Left : A → Type 0) (to : (v : A) → Left v → State → Place) (Last : B → Type 0)
+      (then : (v : B) → Last v → State → Place) → Reaches e code p x Left to
+      → ((v : A) (s : State) (left : Left v) → Reaches e code (to v left s) (next v s) Last then)
+      → Reaches e code p (bind x next) Last then
+  reaches_bind p (Gives v s) next Left to Last then r go = let a = r.arrives in
+      reaches_from p (to v a.0 s) (next v s) Last then a.1 (go v s a.0)
+  reaches_bind p (Stops outcome s) next Left to Last then r go = record { arrives = r.arrives }
+
+  pub does_then : {A B : Type 0} (p : Place) (x : Evaluation A) (next : A → State → Evaluation B)
+      (to : A → State → Place) (fits : A → Type 0) (Last : B → Type 0)
+      (then : (v : B) → Last v → State → Place) → Does e code p x to fits
+      → ((v : A) (s : State) → fits v → Reaches e code (to v s) (next v s) Last then)
+      → Reaches e code p (bind x next) Last then
+  does_then p (Gives v s) next to fits Last then d go =
+      reaches_from p (to v s) (next v s) Last then d.comes (go v s d.fit)
+  does_then p (Stops outcome s) next to fits Last then d go = record { arrives = d.comes }
+
+  -- and farther from where the value leads
+  pub reaches_on : {A : Type 0} (p : Place) (x : Evaluation A) (Left : A → Type 0)
+      (to : (v : A) → Left v → State → Place) (Last : A → Type 0) (then : (v : A) → Last v → State → Place)
+      → Reaches e code p x Left to
+      → ((v : A) (s : State) (left : Left v) → (last : Last v) × Comes e code (to v left s) (then v last s))
+      → Reaches e code p x Last then
+  reaches_on p (Gives v s) Left to Last then r go = let a = r.arrives in let b = go v s a.0 in
+      record { arrives = (b.0, comes_on e code p (to v a.0 s) (then v b.0 s) a.1 b.1) }
+  reaches_on p (Stops outcome s) Left to Last then r go = record { arrives = r.arrives }
 
 module _ (it : Running) where
   abbrev e : Environment

@@ -36,9 +36,10 @@ use Rattle.vm_code.specs.Operators.{computed, told, told_if_found, pointer_moved
 use Rattle.vm_code.specs.Pointers.{moved, same_pointer}
 use Rattle.code_gen.specs.ExpressionCode.{on}
 use Rattle.code_gen.specs.ExpressionCode.{truth_code}
-use Rattle.code_gen.specs.RunLaw.{HasKind, pushed, IfGives, Does, StandAt}
+use Rattle.code_gen.specs.RunLaw.{HasKind, pushed, StandAt, Running}
+use Rattle.code_gen.proofs.Going.{IfGives, Does}
 use Rattle.code_gen.specs.RunLaw.{standing}
-use Rattle.code_gen.proofs.Going.{Running, does_one, does_same, does_gives}
+use Rattle.code_gen.proofs.Going.{does_one, does_same, does_gives}
 use Rattle.code_gen.proofs.PlainParts as part
 use Rattle.code_gen.proofs.PlainParts.{IsPointer, a_pointer, a_place, a_number, IsLeftAs, number_left, pointer_left}
 

@@ -8,10 +8,9 @@ use Rattle.critical_table.specs.declared.pos.Pos.{Pos}
 use Rattle.vm_code.specs.declared.instr.Instr.{Instr}
 use Rattle.vm_code.specs.declared.parts.CodeFunction.{CodeFunction}
 use Rattle.vm_code.specs.Contents.{Contents}
-use Rattle.code_gen.specs.RunLaw.{StandAt}
-use Rattle.code_gen.proofs.Going.{Running, stand_front, stand_back}
-use Rattle.code_gen.proofs.PlainParts as part
-use Rattle.code_gen.proofs.PlainParts.{IsPointer, a_pointer, a_place, a_number, IsLeftAs, number_left, pointer_left}
+use Rattle.code_gen.specs.RunLaw.{StandAt, Running}
+use Rattle.code_gen.proofs.Going.{stand_front, stand_back}
+use Rattle.code_gen.proofs.PlainStretches as stretch
 
 module _ (it : Running) where
   abbrev code : Contents
@@ -36,7 +35,7 @@ module _ (it : Running) where
       record {
         first = stand_front code function at a z two;
         second = stand_back code function at l a z long_a two;
-        third = part.behind_two it at l k a z b long_a long_z three;
+        third = stretch.behind_two it 0 at l k a z b long_a long_z three;
         last = stand_back code function at (l + (k + m)) (a ++ z ++ b) c
             (omega (arith, length-append (a ++ z) b, length-append a z, long_a, long_z, long_b)) stands;
       }

@@ -32,9 +32,10 @@ use Rattle.vm_code.specs.Machine.{fetched}
 use Rattle.vm_code.specs.Operators.{computed, pointer_moved}
 use Rattle.vm_code.specs.Pointers.{moved}
 use Rattle.code_gen.specs.ExpressionCode.{on}
-use Rattle.code_gen.specs.RunLaw.{HasKind, pushed, IfGives, Does, StandAt}
+use Rattle.code_gen.specs.RunLaw.{HasKind, pushed, StandAt, Running}
+use Rattle.code_gen.proofs.Going.{IfGives, Does}
 use Rattle.code_gen.specs.RunLaw.{standing}
-use Rattle.code_gen.proofs.Going.{Running, does_one, does_same, does_gives}
+use Rattle.code_gen.proofs.Going.{does_one, does_same, does_gives}
 use Rattle.code_gen.proofs.PlainParts as part
 use Rattle.code_gen.proofs.PlainParts.{IsPointer, a_pointer, a_place, a_number, IsLeftAs, number_left, pointer_left}
 use Rattle.acc_num.specs.Kinds.{bytes_of}
@@ -121,7 +122,7 @@ module _ (it : Running) where
       (does_same e code _ (loaded of p position s) _ (HasKind (scalar_form of)) refl
       (acts.loaded_fits it of p position s))
 
-  store_does : (of : Scalar) (p : Pointer) (v : Value) (below : List Value) (at : ℕ) (position : Pos) (s : State)
+  pub store_does : (of : Scalar) (p : Pointer) (v : Value) (below : List Value) (at : ℕ) (position : Pos) (s : State)
       → HasKind (scalar_form of) v → fetched code function at ≡ Some (i.Store of, position)
       → Does e code (now at (v ∷ Ptr p ∷ below) s) (scalar_stored of p v position s)
       (λ u s1. now (at + 1) (v ∷ below) s1) any

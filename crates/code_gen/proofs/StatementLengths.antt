@@ -27,13 +27,13 @@ slots_down_long slot (suc n) = ap suc (slots_down_long slot n)
 kills_long : (slots : List ℕ) → length (kills slots) ≡ length slots
 kills_long slots = length-map slots i.Kill
 
-makes_long : (locals : List Local) → length (makes locals) ≡ length locals
+pub makes_long : (locals : List Local) → length (makes locals) ≡ length locals
 makes_long locals = length-map locals (λ (l : Local). i.Make l.slot l.size)
 
-slots_long : (locals : List Local) → length (reverse (slots_of locals)) ≡ length locals
+pub slots_long : (locals : List Local) → length (reverse (slots_of locals)) ≡ length locals
 slots_long locals = length-reverse (slots_of locals) ∙ length-map locals (λ (l : Local). l.slot)
 
-kills_of_long : (locals : List Local) → length (kills_of locals) ≡ length locals
+pub kills_of_long : (locals : List Local) → length (kills_of locals) ≡ length locals
 kills_of_long locals = kills_long (reverse (slots_of locals)) ∙ slots_long locals
 
 pairs_to_long : (to : ℕ) (cases : List Case) → length (pairs_to to cases) ≡ length cases
@@ -63,13 +63,14 @@ switch_code_long entered passed item locals cases default =
 
 -- how many objects a `break` and a `continue` leave in a block
 module _ (locals : List Local) (around : Around) where
-  left_long : length (within_block locals around).left ≡ length around.left + length locals
+  pub left_long : length (within_block locals around).left ≡ length around.left + length locals
   left_long = omega (arith, length-append (reverse (slots_of locals)) around.left, slots_long locals)
 
-  left_again_long : length (within_block locals around).left_again ≡ length around.left_again + length locals
+  pub left_again_long : length (within_block locals around).left_again ≡ length around.left_again + length locals
   left_again_long = omega (arith, length-append (reverse (slots_of locals)) around.left_again, slots_long locals)
 
-items_size_at : (items : Statements) (l l2 a a2 : ℕ) → l ≡ l2 → a ≡ a2 → items_size l a items ≡ items_size l2 a2 items
+pub items_size_at : (items : Statements) (l l2 a a2 : ℕ) → l ≡ l2 → a ≡ a2 → items_size l a items ≡ items_size l2 a2
+    items
 items_size_at items l l2 a a2 e f = ap (λ n. items_size n a items) e ∙ ap (λ n. items_size l2 n items) f
 
 module _ (program : Program) (table : List Through) where

@@ -21,3 +21,4 @@ pub mod UnitCode
 pub mod SizeLaw
 pub mod JournalLaw
 pub mod RunLaw
+pub mod StatementRunLaw

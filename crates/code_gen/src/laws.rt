@@ -4,6 +4,7 @@ ghost use Rattle.code_gen.specs.Law.{EachJournalEnds};
 ghost use Rattle.code_gen.specs.Lifetimes.{AutomaticObjectsAreAStack};
 ghost use Rattle.code_gen.specs.RunLaw.{EachPlainExpressionRuns};
 ghost use Rattle.code_gen.specs.SizeLaw.{AllSizesAreLengths};
+ghost use Rattle.code_gen.specs.StatementRunLaw.{EachPlainStatementRuns};
 
 /// The last event of each run is its end, and tells its outcome.
 pub fn end_law()
@@ -32,8 +33,18 @@ pub fn lifetime_law()
 {}
 
 /// The machine does what an expression means: where the code of the expression stands, the run comes behind it with the
-/// value on the operands, in the state that the meaning gives, or ends as the meaning stops; with the same output,
-/// journal and ticks. So far of each well-typed expression without calls and value objects.
+/// value on the operands and the value objects that were made in slots of their own, in the state that the meaning
+/// gives, or ends as the meaning stops; with the same output, journal and ticks. So far of each well-typed expression
+/// without calls.
 pub fn run_law()
     ensures { EachPlainExpressionRuns }
+{}
+
+/// The machine does what a statement means: where the code of the statement stands, the run comes to where the program
+/// goes on, to the next statement, out of a loop or switch, to the next turn or to the caller, in the state that the
+/// meaning gives once a jump has let the objects die that it leaves; or it ends as the meaning stops. So far of each
+/// well-typed block, expression statement, `if`, `break`, `continue`, `return` without a value or with a scalar, and mark
+/// of a const object, without calls.
+pub fn statement_run_law()
+    ensures { EachPlainStatementRuns }
 {}

@@ -1,0 +1,90 @@
+-- The machine's run of the code of a statement is what the meaning of the statement gives: so far of blocks, expression
+-- statements, `if`, `break`, `continue`, `return` of no value or a scalar, and marks of const objects.
+use Rattle.std.specs.Prelude.{◌≡◌, ℕ, ◌+◌, ◌≤◌, Bool, List, [], ◌++◌, length, map, unwrap_or}
+use Rattle.lib_defs.specs.declared.value.Value.TheVariants.{Nothing}
+use Rattle.run_defs.specs.State.{State}
+use Rattle.c_core.specs.Forms.{given_form}
+use Rattle.c_core.specs.Named.{Names}
+use Rattle.c_core.specs.TreeUnit.{Statement, Stands, Action, Statements, NoStatement, MoreStatements, Program}
+use Rattle.c_core.specs.TreeUnit as unit
+use Rattle.c_core.specs.TypedUnit.{Flow as FlowTyped, StatementTyped}
+use Rattle.vm_code.specs.Calling.{leaves}
+use Rattle.vm_code.specs.Frames.{Place}
+use Rattle.vm_code.specs.Slots.{Held, numbers, all_died}
+use Rattle.code_gen.specs.CalledTypes.{Through}
+use Rattle.code_gen.specs.Expressions.{Call}
+use Rattle.code_gen.specs.Flows.{Flow, Next, Broke, Continued, Returned}
+use Rattle.code_gen.specs.RunLaw.{IsPlain, IsAround, Reaches, Running, StandAt, standing, stands_at}
+use Rattle.code_gen.specs.StatementCode.{Around, statement_size, statement_code}
+use Rattle.code_gen.specs.Statements.{statement}
+
+-- ---- the statements that are covered
+
+abbrev mutual
+  pub IsPlainStatement : Statement → Type 0
+  IsPlainStatement (Stands here action) = IsPlainAction action
+
+  pub IsPlainAction : Action → Type 0
+  IsPlainAction (unit.Block locals items) = ArePlain items
+  IsPlainAction (unit.Zero slot size) = ⊥
+  IsPlainAction (unit.Initialize slot at content value) = ⊥
+  IsPlainAction (unit.InitializeBytes slot at bytes) = ⊥
+  IsPlainAction (unit.SealBytes slot at len) = Unit {0}
+  IsPlainAction (unit.Evaluate core) = IsPlain core
+  IsPlainAction (unit.If test first second) =
+      IsPlain test × IsPlainStatement first × IsPlainStatement second
+  IsPlainAction (unit.While test body) = ⊥
+  IsPlainAction (unit.Do body test) = ⊥
+  IsPlainAction (unit.For test step body) = ⊥
+  IsPlainAction (unit.Switch value locals items cases default) = ⊥
+  IsPlainAction unit.Break = Unit {0}
+  IsPlainAction unit.Continue = Unit {0}
+  IsPlainAction unit.Return = Unit {0}
+  IsPlainAction (unit.ReturnValue value) = IsPlain value
+  IsPlainAction (unit.ReturnWhole size value) = ⊥
+
+  pub ArePlain : Statements → Type 0
+  ArePlain NoStatement = Unit {0}
+  ArePlain (MoreStatements first rest) = IsPlainStatement first × ArePlain rest
+
+-- ---- where a statement leads
+
+-- The objects in these slots, which a jump leaves, are held on top of others.
+pub record OnTop (slots : List ℕ) (held : List Held) : Type 0 where
+  pub left : List Held
+  pub others : List Held
+  pub both : held ≡ left ++ others
+  pub slots_are : map (λ (h : Held). h.slot) left ≡ slots
+
+-- A function gives what its code says; objects that a statement may name are held, and those that its jumps leave.
+pub record Inside (it : Running) (names : Names) (flow : FlowTyped) (around : Around) : Type 0 where
+  pub form_is : it.function.form ≡ given_form flow.gives
+  pub above : flow.slots ≤ around.values
+  pub named : IsAround names around.values it.frame.held
+  pub breaks : OnTop around.left it.frame.held
+  pub continues : OnTop around.left_again it.frame.held
+
+-- A jump lets the objects that it leaves die first: those of the blocks that the meaning still has to leave there.
+abbrev pub jumped : {slots : List ℕ} {held : List Held} → Running → OnTop slots held → ℕ → (answered : Bool) → State
+    → Place
+jumped it objects to answered s = standing (record it.frame { held = objects.others; answered = answered }) it.rest to
+    [] (all_died (numbers objects.left) s)
+
+-- to the next statement, out of the loop or switch, to the end of the body of the loop, or to the caller
+abbrev pub leads : {names : Names} {flow : FlowTyped} {around : Around} (it : Running) → Inside it names flow around
+    → (next : ℕ) → Flow → (answered : Bool) → State → Place
+leads it inside next Next answered s = stands_at it [] answered next [] s
+leads {around = around} it inside next Broke answered s = jumped it inside.breaks around.behind answered s
+leads {around = around} it inside next Continued answered s = jumped it inside.continues around.again answered s
+leads it inside next (Returned value) answered s =
+    leaves it.environment it.code it.function.form it.frame (unwrap_or value Nothing) it.rest s
+
+-- Where the code of a statement stands, the machine does what the statement means, and goes on where the program does.
+abbrev pub EachPlainStatementRuns : Type 0
+EachPlainStatementRuns = (it : Running) (program : Program) (table : List Through) (call : Call) (names : Names)
+    (flow : FlowTyped) (around : Around) (inside : Inside it names flow around) (st : Statement)
+    → StatementTyped names flow st → IsPlainStatement st → (at text : ℕ)
+    → StandAt it.code it.function at (statement_code program table at text around st) → (answered : Bool) (s : State)
+    → Reaches it.environment it.code (stands_at it [] answered at [] s)
+    (statement program call it.frame.result st it.frame.held s) (λ f. Bool)
+    (leads it inside (at + statement_size (length around.left) (length around.left_again) st))
