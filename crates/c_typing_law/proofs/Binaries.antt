@@ -85,10 +85,12 @@ module _ (names : Names) (structures : List Structure) (formed : StructuresForme
       → InCommon left right
   in_common left right l r h = record {
     left =
-        number_as_typed names structures (common_basic left right) left.core (common_real (basic_in (type_of_part left)) (basic_in (type_of_part right))) l
+        number_as_typed names structures (common_basic left right) left.core (common_real (basic_in
+        (type_of_part left)) (basic_in (type_of_part right))) l
         (integer_number names structures left.core l h.left);
     right =
-        number_as_typed names structures (common_basic left right) right.core (common_real (basic_in (type_of_part left)) (basic_in (type_of_part right))) r
+        number_as_typed names structures (common_basic left right) right.core (common_real (basic_in
+        (type_of_part left)) (basic_in (type_of_part right))) r
         (integer_number names structures right.core r h.right);
   }
 
@@ -115,7 +117,8 @@ module _ (names : Names) (structures : List Structure) (formed : StructuresForme
       let both : InCommon left right = in_common left right l r h in
       number_node names structures (common_basic left right) at
       (tree.Arithmetic operator (int_kind (common_basic left right)) (number_as (common_basic left right) left.core)
-      (number_as (common_basic left right) right.core)) (common_real (basic_in (type_of_part left)) (basic_in (type_of_part right))) refl (
+      (number_as (common_basic left right) right.core)) (common_real (basic_in (type_of_part left)) (basic_in
+      (type_of_part right))) refl (
         both.left.left,
         both.left.is.core,
         right_fits (is_shift operator) (int_kind (common_basic left right))
@@ -220,7 +223,8 @@ module _ (names : Names) (structures : List Structure) (formed : StructuresForme
 
   subtract_pointers : (left right : Part) → is_pointer (type_of_part right) ≡ true → may_subtract left right ≡ true
       → ArePointers left right
-  subtract_pointers left right pointer may = elim (three_ways (are_integers left right) (are_pointer_and_integer left right)
+  subtract_pointers left right pointer may = elim (three_ways (are_integers left right)
+      (are_pointer_and_integer left right)
       (point_to_versions left right) may) [
         | inl both ↦ absurd (not_both right (integers left right both).right pointer)
         | inr other ↦ elim other [
@@ -263,7 +267,8 @@ module _ (names : Names) (structures : List Structure) (formed : StructuresForme
       measured structures formed (target_of (type_of_part left)) (target_formed structures (type_of_part left) l.type)
       (move_complete left may both.left) in
       number_node names structures b.Long at
-      (tree.Difference (size_in (layout_of (target_of (type_of_part left)) structures)) left.core right.core) refl refl (
+      (tree.Difference (size_in (layout_of (target_of
+      (type_of_part left)) structures)) left.core right.core) refl refl (
         m.size,
         pointer_left names structures left.core l both.left,
         l.core,
@@ -304,7 +309,8 @@ module _ (names : Names) (structures : List Structure) (formed : StructuresForme
   pub and_typed : (at : Pos) (left right : Part) → Value left.core → Value right.core
       → GivesPart names structures (and_rule at left right)
   and_typed at left right l r =
-      fits_if Typed (logical_demands left right) (value (At (basic_type b.Int) at (tree.AndAlso (truth_value left.core) (truth_value right.core))))
+      fits_if Typed (logical_demands left right) (value (At (basic_type b.Int) at (tree.AndAlso
+      (truth_value left.core) (truth_value right.core))))
       (λ hold. let both : (is_scalar (type_of_part left) ≡ true) × (is_scalar (type_of_part right) ≡ true) =
       both_hold _ _ hold.0 in
       let first : TruthTyped names structures (truth_value left.core) = truth_of_part left l both.0 in
@@ -315,7 +321,8 @@ module _ (names : Names) (structures : List Structure) (formed : StructuresForme
   pub or_typed : (at : Pos) (left right : Part) → Value left.core → Value right.core
       → GivesPart names structures (or_rule at left right)
   or_typed at left right l r =
-      fits_if Typed (logical_demands left right) (value (At (basic_type b.Int) at (tree.OrElse (truth_value left.core) (truth_value right.core))))
+      fits_if Typed (logical_demands left right) (value (At (basic_type b.Int) at (tree.OrElse
+      (truth_value left.core) (truth_value right.core))))
       (λ hold. let both : (is_scalar (type_of_part left) ≡ true) × (is_scalar (type_of_part right) ≡ true) =
       both_hold _ _ hold.0 in
       let first : TruthTyped names structures (truth_value left.core) = truth_of_part left l both.0 in

@@ -92,7 +92,8 @@ fewer variadic wanted given h = elim (either_holds (wanted + 1 == given + 1)
       | inr more ↦ (let both : (variadic ≡ true) × (nat_lt (wanted + 1) (given + 1) ≡ true) = both_hold _ _ more in
           let below : wanted + 1 < given + 1 = lt_test (wanted + 1) (given + 1) both.1 in
           let less : wanted < given = omega arith in
-          second_holds (wanted == given) (variadic && nat_lt wanted given) (both_true variadic (nat_lt wanted given) both.0 (lt_holds wanted given less)))
+          second_holds (wanted == given) (variadic && nat_lt wanted given) (both_true variadic
+          (nat_lt wanted given) both.0 (lt_holds wanted given less)))
     ]
 
 too_few : (variadic : Bool) (wanted : ℕ) → is_enough variadic (wanted + 1) 0 ≡ true → ⊥
@@ -195,7 +196,8 @@ module _ (names : Names) (structures : List Structure) (formed : StructuresForme
       let both : (is_pointer (type_of_part function) ≡ true)
       × (is_function (target_of (type_of_part function)) ≡ true) = both_hold _ _ may in
       call_value at used function arguments f both.0
-      (call_parts (type_of_part function) arguments may f.type (unless_not (may_call function) (is_some (given_in (result_in function) structures)) hold.0 may) as_are hold.1.1.0))
+      (call_parts (type_of_part function) arguments may f.type (unless_not (may_call function) (is_some (given_in
+      (result_in function) structures)) hold.0 may) as_are hold.1.1.0))
 
   pub pass_typed : (type : CType) (part : Part) → TypeFormed structures type → ValueTyped names structures part.core
       → GivesCore names structures type (pass_rule structures type part)
@@ -221,4 +223,5 @@ module _ (names : Names) (structures : List Structure) (formed : StructuresForme
       → IfFits (further_rule part) (λ core. CoreTyped names core × IsScalar (form_of core))
   further_typed part v some =
       fits_if (λ core. CoreTyped names core × IsScalar (form_of core)) (further_demands part)
-      (promoted_value part.core) (λ hold. further_value part v some (not_holds (is_compound (type_of_part part)) hold.0))
+      (promoted_value part.core) (λ hold. further_value part v some (not_holds (is_compound
+      (type_of_part part)) hold.0))

@@ -222,12 +222,14 @@ module _ (names : Names) (structures : List Structure) (formed : StructuresForme
       → BothBecome (conditional_type left right) left right
   becomes left right l r have =
       if_either (λ (type : CType). BothBecome type left right) (are_integers left right) _ _
-      (λ both. integers_become (common_basic left right) left right (common_real (basic_in (type_of_part left)) (basic_in (type_of_part right))) l r (integers left right both))
+      (λ both. integers_become (common_basic left right) left right (common_real (basic_in (type_of_part left))
+      (basic_in (type_of_part right))) l r (integers left right both))
       (λ none. if_either (λ (type : CType). BothBecome type left right)
       (is_pointer (type_of_part left) || is_pointer (type_of_part right)) _ _
       (λ one. common_pointer_becomes left right l r
       (λ first second. last_of_six (are_integers left right) (are_same_compound left right)
-      (are_void left right) (are_pointer_and_null left right) (are_pointer_and_null right left) (are_alike left right) have none (no_compound left right one) (no_void left right one) first
+      (are_void left right) (are_pointer_and_null left right) (are_pointer_and_null right left)
+      (are_alike left right) have none (no_compound left right one) (no_void left right one) first
       second))
       (λ neither. let both : (is_pointer (type_of_part left) ≡ false) × (is_pointer (type_of_part right) ≡ false) =
       neither_holds (is_pointer (type_of_part left)) (is_pointer (type_of_part right)) neither in
@@ -272,4 +274,12 @@ module _ (names : Names) (structures : List Structure) (formed : StructuresForme
   pub comma_typed : (at : Pos) (left : Core) (right : Part) → CoreTyped names left → form_of left ≡ form.Nothing
       → Value right.core → PartTyped names structures (comma_part at left right)
   comma_typed at left right l nothing r =
-      record { core = (has_form names right.core r.core, (nothing, l, r.core)); type = r.type; form = r.form; whole = r.whole }
+      record {
+        core = (
+          has_form names right.core r.core,
+          (nothing, l, r.core),
+        );
+        type = r.type;
+        form = r.form;
+        whole = r.whole;
+      }

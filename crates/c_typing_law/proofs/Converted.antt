@@ -214,7 +214,8 @@ module _ (names : Names) (structures : List Structure) where
   promoted_typed core v h =
       let P : Core → Type 0 = NumberTyped (promoted (basic_in (type_in core))) in
       subst P (sym (promoted_by core (integer_in (type_in core)) h))
-      (number_as_typed (promoted (basic_in (type_in core))) core (promoted_real (basic_in (type_in core))) v (integer_number core v h))
+      (number_as_typed (promoted (basic_in (type_in core))) core (promoted_real (basic_in (type_in core))) v
+      (integer_number core v h))
 
   not_promoted : (core : Core) (basic : Option Basic) → is_some basic ≡ false → promoted_as basic core ≡ core
   not_promoted core None h = refl
@@ -348,7 +349,12 @@ module _ (names : Names) (structures : List Structure) where
       core = (
         (let P : Form → Type 0 = HasForm (type_in core) in
             subst P (compound_left core v h) (has_form names core v.core)),
-        ((measured structures formed (type_in core) v.type (whole_complete core v h)).size, compound_left core v h, v.core),
+        (
+          (measured structures formed (type_in core) v.type
+              (whole_complete core v h)).size,
+          compound_left core v h,
+          v.core,
+        ),
       );
       form = left ∙ ap Some (compound_left core v h);
     }

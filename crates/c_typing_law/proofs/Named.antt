@@ -44,7 +44,8 @@ module _ (names : Names) (structures : List Structure) where
       (may_have number basic) (Some basic) (first_type number rest)
       (λ h. number_node names structures basic at (tree.Number (int_kind basic) (pos number.value)) real.0 refl
       (natural_in_range (int_kind basic) number.value
-      (le_holds (pos number.value) (greatest_of (int_kind basic)) (both_hold (is_listed number basic) (holds basic number.value) h).1)))
+      (le_holds (pos number.value) (greatest_of (int_kind basic)) (both_hold (is_listed number basic)
+      (holds basic number.value) h).1)))
       (λ h. number_among at number rest real.1)
 
   name_typed : (at : Pos) (named : Option Named) → IfSome named (NamedTyped names structures)

@@ -214,7 +214,8 @@ module _ (names : Names) (structures : List Structure) (formed : StructuresForme
   operand_fits false left core v h =
       let made : NumberTyped names structures (common left (basic_in (type_in core)))
       (number_as (common left (basic_in (type_in core))) core) =
-      number_as_typed names structures (common left (basic_in (type_in core))) core (common_real left (basic_in (type_in core))) v
+      number_as_typed names structures (common left (basic_in (type_in core))) core (common_real left (basic_in
+      (type_in core))) v
       (integer_number names structures core v h) in
       record { typed = made.is.core; fits = made.left }
 
@@ -265,7 +266,8 @@ module _ (names : Names) (structures : List Structure) (formed : StructuresForme
   compound_typed : (at : Pos) (operator : Operator) (target right : Part) → Typed target → Value right.core
       → GivesPart names structures (compound_rule structures at operator target right)
   compound_typed at operator target right p r =
-      fits_if Typed (compound_demands structures operator target right) (compound_part structures at operator target right)
+      fits_if Typed (compound_demands structures operator target right)
+      (compound_part structures at operator target right)
       (λ hold. let m : Modifiable target = modifiable target p hold.0 in
       compound_by at operator target.core right.core (is_pointer (type_of_part target)) m.place r
       (changed_by_integer operator target right hold.1.0)
@@ -282,7 +284,8 @@ module _ (names : Names) (structures : List Structure) (formed : StructuresForme
   one_typed at type = record {
     is =
         number_node names structures (common (basic_in type) b.Int) at
-        (tree.Number (int_kind (common (basic_in type) b.Int)) (pos 1)) (common_real (basic_in type) b.Int) refl (one_in_kind (int_kind (common (basic_in type) b.Int)));
+        (tree.Number (int_kind (common (basic_in type) b.Int)) (pos 1)) (common_real (basic_in type) b.Int) refl
+        (one_in_kind (int_kind (common (basic_in type) b.Int)));
     left = refl;
   }
 
@@ -300,7 +303,8 @@ module _ (names : Names) (structures : List Structure) (formed : StructuresForme
       (unless_not (is_pointer (type_of_part target)) (is_complete (target_of (type_of_part target)) structures)
       hold.1.1.0 pointer) by.is.core tt)
       (λ none. number_updated at (step_operator back) (common (basic_in (type_of_part target)) b.Int) target.core
-      (one at (type_of_part target)) m.place (not_second (is_integer (type_of_part target)) (is_pointer (type_of_part target)) hold.1.0 none) by.is.core
+      (one at (type_of_part target)) m.place (not_second (is_integer (type_of_part target)) (is_pointer
+      (type_of_part target)) hold.1.0 none) by.is.core
       (step_fits back (int_kind (common (basic_in (type_of_part target)) b.Int)))))
 
   pointer_stepped : (at : Pos) (back : Bool) (place : Core) → Place place → is_pointer (type_in place) ≡ true
@@ -327,9 +331,11 @@ module _ (names : Names) (structures : List Structure) (formed : StructuresForme
       (step at (step_change structures back (type_of_part target)) target.core)
       (λ hold. let m : Modifiable target = modifiable target p hold.0 in
       if_either (λ (how : Change). Typed (step at how target.core)) (is_pointer (type_of_part target)) _ _
-      (λ pointer. pointer_stepped at back target.core m.place pointer (unless_not (is_pointer (type_of_part target)) (is_complete (target_of (type_of_part target)) structures)
+      (λ pointer. pointer_stepped at back target.core m.place pointer (unless_not (is_pointer (type_of_part target))
+      (is_complete (target_of (type_of_part target)) structures)
       hold.1.1.0 pointer))
-      (λ none. number_stepped at back target.core m.place (not_second (is_integer (type_of_part target)) (is_pointer (type_of_part target)) hold.1.0 none)))
+      (λ none. number_stepped at back target.core m.place (not_second (is_integer (type_of_part target)) (is_pointer
+      (type_of_part target)) hold.1.0 none)))
 
   pub assignment_rules_typed : AssignmentTyped names structures
   assignment_rules_typed = record {

@@ -166,7 +166,8 @@ module _ (names : Names) (structures : List Structure) (formed : StructuresForme
   not_typed at part v =
       fits_if Typed (not_demands part) (not_part at part)
       (λ hold. not_by at part.core v (is_pointer (type_of_part part)) (pointer_left names structures part.core v)
-      (λ none. integer_number names structures part.core v (not_second (is_integer (type_of_part part)) (is_pointer (type_of_part part)) hold.0 none)))
+      (λ none. integer_number names structures part.core v (not_second (is_integer (type_of_part part)) (is_pointer
+      (type_of_part part)) hold.0 none)))
 
   -- ---- sizes
 
@@ -194,7 +195,8 @@ module _ (names : Names) (structures : List Structure) (formed : StructuresForme
       (pointer_node_typed names structures (Plain (Pointer to) no_quals) at part.core refl h v.core (is_null part)
       (λ none. pointer_left names structures part.core v
       (pointee_pointer (type_of_part part)
-      (sort_known to (pointee (type_of_part part)) (second_true (is_null part) (are_of_one_sort to (pointee (type_of_part part))) may none))))).is
+      (sort_known to (pointee (type_of_part part)) (second_true (is_null part) (are_of_one_sort to (pointee
+      (type_of_part part))) may none))))).is
   cast_by at (Plain (BasicType basic) quals) part h v may =
       let both : (is_integer (Plain (BasicType basic) quals) ≡ true) × (is_scalar (type_of_part part) ≡ true) =
       truth_of names structures (Plain (BasicType basic) quals) (type_of_part part) may in
