@@ -1,0 +1,4 @@
+-- The definitions of the crate, in reading order.
+pub mod WellFormed
+pub mod TypedParts
+pub mod Law
