@@ -1,5 +1,11 @@
 pub mod Becoming
 pub mod Examples
+pub mod Expecting
 pub mod KnownTags
+pub mod Literals
 pub mod Looking
+pub mod Parts
+pub mod Passing
+pub mod Size
 pub mod Steps
+pub mod Within

@@ -1,8 +1,17 @@
 //! Which type a specifier list, a declarator and a type name stand for, and what an expression is (6.5, 6.7).
 #![tactic(auto)]
 
+mod applying;
+mod argument;
+mod call;
+pub mod expression;
 pub mod naming;
+mod node;
+mod operators;
+mod primary;
 pub mod tagging;
+mod type_names;
+pub mod usage;
 
 pub use naming::{bind_name, new_compound, new_enumeration};
 pub use tagging::{
