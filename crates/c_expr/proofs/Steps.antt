@@ -91,6 +91,13 @@ pub refused_as : {A : Type 0} (answer other : Answer A) (fault : TypeFault) → 
 refused_as answer other (fault.Constraint number at) e refused = e ∙ refused
 refused_as answer other (fault.Memory cause) e refused = tt
 
+-- a rule that breaks at a place that is known by another name
+pub breaks_refused_at : {A : Type 0} (at place : Pos) (env : Env) (rule : Ruled A) (fault : TypeFault) → place ≡ at
+    → BreaksAt rule place fault → Refused (settle at env rule) fault
+breaks_refused_at at place env rule fault e says =
+    refused_as (settle at env rule) (settle place env rule) fault (ap (λ p. settle p env rule) (sym e))
+    (breaks_refused place env rule fault says)
+
 module _ {A B : Type 0} (view : Types → B → A) (In : Types → B → Type 0) where
   -- a part, and then what is behind it
   pub then_part : {C : Type 0} (answer : Answer C) (next : C → Env → Answer A) (part : C) (Inside : Types → Type 0)

@@ -6,7 +6,7 @@ use Rattle.std.specs.Prelude.{ℕ, ◌+◌, ℤ, Bool, true, false, List, [], �
 use Rattle.critical_table.specs.declared.pos.Pos.{Pos}
 use Rattle.c_types.specs.CType.{CType, CTypes, Nil}
 use Rattle.c_core.specs.Constant.{constant_of}
-use Rattle.c_core.specs.Tree.{Cores, NoCore, MoreCores}
+use Rattle.c_core.specs.Tree.{Core, Cores, NoCore, MoreCores}
 use Rattle.c_syntax.specs.Tree.{Expr, Exprs, Maybe, TypeName, Specifier, Specifiers, MemberDeclaration, Members}
 use Rattle.c_syntax.specs.Tree.{Declarators, Enumerators, Declarator, Parameter, Parameters}
 use Rattle.c_syntax.specs.Tree as tree
@@ -223,6 +223,10 @@ side_of e = record { at = place_of e; answer = λ used env. typed used e env }
 -- an expression as a value that is needed
 abbrev pub valued : Expr → Env → Answer Part
 valued e env = as_value (place_of e) (typed true e env)
+
+-- its core
+abbrev pub value_of : Expr → Env → Answer Core
+value_of e env = and_then (valued e env) (λ v env. Gives v.core env)
 
 -- the type of specifiers
 abbrev pub specified : Context → Specifiers → Env → Answer CType

@@ -30,27 +30,21 @@ use c_syntax::{Access, Infix, Measure, Prefix};
 use c_types::{TypeId, TypeTable};
 use critical_table::{Name, Pos};
 
-/// The member of that name that `.` or `->` selects (6.5.2.3).
-#[derive(Clone, Copy)]
-pub(crate) struct Selection<'a> {
-    pub(crate) at: Pos,
-    pub(crate) access: Access,
-    pub(crate) name: &'a Name,
-}
-
-/// A member of a structure or union.
+/// A member of a structure or union, by `.` or `->` at that place (6.5.2.3).
 pub(crate) fn select(
     types: &mut TypeTable,
-    member: Selection,
+    operator: (Pos, Access),
+    name: &Name,
     whole: Operand,
 ) -> Result<Operand, TypeFault>
     requires { PartIn types.old whole }
-    ensures { Rules part_of PartIn (rule.selection_rule (structures_of types.old) member.at member.access
-        member.name.now (part_of types.old whole)) member.at types.old types.new result }
+    ensures { Rules part_of PartIn (rule.selection_rule (structures_of types.old) operator.0 operator.1
+        name.now (part_of types.old whole)) operator.0 types.old types.new result }
 {
-    match member.access {
-        Access::Dot => dot(types, member.at, member.name, whole),
-        Access::Arrow => arrow(types, member.at, member.name, whole),
+    let (at, access) = operator;
+    match access {
+        Access::Dot => dot(types, at, name, whole),
+        Access::Arrow => arrow(types, at, name, whole),
     }
 }
 

@@ -23,33 +23,25 @@ use c_syntax::Expr;
 use c_types::TypeTable;
 use critical_table::Pos;
 
-/// What is called, and whether the value of the call is used.
-#[derive(Clone, Copy)]
-pub(crate) struct CallAt<'a> {
-    pub(crate) used: bool,
-    pub(crate) at: Pos,
-    pub(crate) function: &'a Expr,
-}
-
-/// `function(arguments)`
+/// A call: whether its value is used, its place, and the function that is called; then the arguments.
 #[cycle(typing)]
 pub(crate) fn call_operand(
     scopes: &mut Scopes,
     types: &mut TypeTable,
-    node: CallAt,
+    node: (bool, Pos, &Expr),
     list: &[Expr],
 ) -> Result<Operand, TypeFault>
     requires { ScopesIn types.old scopes.old }
-    ensures { AnswersPart (typed node.used (tree.Call node.at (expr_of node.function.now)
+    ensures { AnswersPart (typed node.0 (tree.Call node.1 (expr_of node.2.now)
         (exprs (map expr_of list.now))) (env_of scopes.old types.old)) types.old scopes.new types.new result }
 {
-    let function = used_operand(scopes, types, true, node.function)?;
+    let function = used_operand(scopes, types, true, node.2)?;
     let arguments = arguments(scopes, types, &function, list)?;
     let called = Called {
         function,
         arguments,
     };
-    call(types, node.at, node.used, called)
+    call(types, node.1, node.0, called)
 }
 
 /// The arguments of a call of that function, in order.

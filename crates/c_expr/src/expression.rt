@@ -6,15 +6,13 @@ ghost use Rattle.c_scopes.specs.Env.{ScopesIn, env_of};
 ghost use Rattle.c_syntax.specs.View.{expr_of};
 ghost use Rattle.c_expr.specs.Clauses.{AnswersCore, AnswersPart};
 ghost use Rattle.c_expr.specs.Shapes as shape;
-ghost use Rattle.c_expr.specs.Typing.{typed, side_of};
+ghost use Rattle.c_expr.specs.Typing.{typed, side_of, value_of};
 ghost use Rattle.c_expr.specs.Uses as spec;
 
-use crate::applying::Selection;
-use crate::call::{CallAt, call_operand};
+use crate::call::call_operand;
 use crate::node::{
-    Between, Cast, MeasureAt, PostfixAt, PrefixAt, Question, Sides, cast_operand,
-    conditional_operand, index_operand, infix_operand, measure_operand, member_operand,
-    postfix_operand, prefix_operand,
+    Sides, cast_operand, conditional_operand, index_operand, infix_operand, measure_operand,
+    member_operand, postfix_operand, prefix_operand,
 };
 use crate::operators::place_of;
 use crate::primary::{constant, identifier, string_literal};
@@ -45,74 +43,24 @@ pub(crate) fn operand(
         Expr::Paren(inner) => operand(scopes, types, used, inner),
         Expr::Index(at, left, right) => index_operand(scopes, types, *at, Sides { left, right }),
         Expr::Call(at, function, arguments) => {
-            let call = CallAt {
-                used,
-                at: *at,
-                function,
-            };
-            call_operand(scopes, types, call, arguments.as_slice())
+            call_operand(scopes, types, (used, *at, function), arguments.as_slice())
         }
         Expr::Member(at, access, whole, name) => {
-            let member = Selection {
-                at: *at,
-                access: *access,
-                name,
-            };
-            member_operand(scopes, types, member, whole)
+            member_operand(scopes, types, (*at, *access, name), whole)
         }
         Expr::Postfix(at, operator, inner) => {
-            postfix_operand(
-                scopes,
-                types,
-                PostfixAt {
-                    at: *at,
-                    operator: *operator,
-                },
-                inner,
-            )
+            postfix_operand(scopes, types, (*at, *operator), inner)
         }
-        Expr::Prefix(at, operator, inner) => {
-            prefix_operand(
-                scopes,
-                types,
-                PrefixAt {
-                    at: *at,
-                    operator: *operator,
-                },
-                inner,
-            )
-        }
+        Expr::Prefix(at, operator, inner) => prefix_operand(scopes, types, (*at, *operator), inner),
         Expr::Measure(at, operator, name) => {
-            measure_operand(
-                scopes,
-                types,
-                MeasureAt {
-                    at: *at,
-                    operator: *operator,
-                },
-                name,
-            )
+            measure_operand(scopes, types, (*at, *operator), name)
         }
-        Expr::Cast(at, name, inner) => cast_operand(scopes, types, Cast { at: *at, name }, inner),
+        Expr::Cast(at, name, inner) => cast_operand(scopes, types, (*at, name), inner),
         Expr::Infix(at, operator, left, right) => {
-            let node = Between {
-                used,
-                at: *at,
-                operator: *operator,
-            };
-            infix_operand(scopes, types, node, Sides { left, right })
+            infix_operand(scopes, types, (used, *at, *operator), Sides { left, right })
         }
-        Expr::Cond(at, test, then, other) => {
-            let question = Question {
-                used,
-                at: *at,
-                test,
-            };
-            let choices = Sides {
-                left: then,
-                right: other,
-            };
-            conditional_operand(scopes, types, question, choices)
+        Expr::Cond(at, test, left, right) => {
+            conditional_operand(scopes, types, (used, *at, test), Sides { left, right })
         }
     }
 }
@@ -215,4 +163,21 @@ pub(crate) fn side_operand(
         Usage::Target => operand(scopes, types, true, expr),
         Usage::Unused => unused_operand(scopes, types, expr),
     }
+}
+
+/// The value of an expression (6.5, 6.3.2.1): what it is as a value that is needed.
+///
+/// The fault has the number of the first constraint that fails, with its place; the scopes are then as far as the walk
+/// came. `Memory` where memory runs out.
+pub fn expression(
+    scopes: &mut Scopes,
+    types: &mut TypeTable,
+    expr: &Expr,
+) -> Result<CoreExpr, TypeFault>
+    requires { ScopesIn types.old scopes.old }
+    ensures { AnswersCore (value_of (expr_of expr.now) (env_of scopes.old types.old)) types.old scopes.new types.new
+        result }
+{
+    let made = value_operand(scopes, types, expr)?;
+    Ok(made.core)
 }

@@ -7,7 +7,7 @@ ghost use Rattle.c_expr.specs.Clauses.{AnswersPart, AnswersParts};
 ghost use Rattle.c_expr.specs.Typing.{typed, side_of};
 ghost use Rattle.c_expr.specs.Uses as spec;
 
-use crate::applying::{Places, Selection, cast_to, joined, measure, prefixed, select};
+use crate::applying::{Places, cast_to, joined, measure, prefixed, select};
 use crate::expression::{operand, side_operand, test_core};
 use crate::operators::{is_decrement, place_of};
 use crate::type_names::named;
@@ -21,59 +21,15 @@ use c_expr_rules::pointers::index;
 use c_operator_rules::conditional::conditional;
 use c_operator_rules::steps::postfix;
 use c_scopes::Scopes;
-use c_syntax::{Expr, Infix, Measure, Postfix, Prefix, TypeName};
+use c_syntax::{Access, Expr, Infix, Measure, Postfix, Prefix, TypeName};
 use c_types::TypeTable;
-use critical_table::Pos;
+use critical_table::{Name, Pos};
 
 /// Two operands that are not typed yet.
 #[derive(Clone, Copy)]
 pub(crate) struct Sides<'a> {
     pub(crate) left: &'a Expr,
     pub(crate) right: &'a Expr,
-}
-
-/// An operator behind its operand.
-#[derive(Clone, Copy)]
-pub(crate) struct PostfixAt {
-    pub(crate) at: Pos,
-    pub(crate) operator: Postfix,
-}
-
-/// An operator before its operand.
-#[derive(Clone, Copy)]
-pub(crate) struct PrefixAt {
-    pub(crate) at: Pos,
-    pub(crate) operator: Prefix,
-}
-
-/// An operator before a type name.
-#[derive(Clone, Copy)]
-pub(crate) struct MeasureAt {
-    pub(crate) at: Pos,
-    pub(crate) operator: Measure,
-}
-
-/// A cast before its operand.
-#[derive(Clone, Copy)]
-pub(crate) struct Cast<'a> {
-    pub(crate) at: Pos,
-    pub(crate) name: &'a TypeName,
-}
-
-/// An operator between two operands, and whether the value of the whole is used.
-#[derive(Clone, Copy)]
-pub(crate) struct Between {
-    pub(crate) used: bool,
-    pub(crate) at: Pos,
-    pub(crate) operator: Infix,
-}
-
-/// The first operand of a conditional, and whether the value of the whole is used.
-#[derive(Clone, Copy)]
-pub(crate) struct Question<'a> {
-    pub(crate) used: bool,
-    pub(crate) at: Pos,
-    pub(crate) test: &'a Expr,
 }
 
 /// Two operands, the left one first.
@@ -114,15 +70,15 @@ pub(crate) fn index_operand(
 pub(crate) fn member_operand(
     scopes: &mut Scopes,
     types: &mut TypeTable,
-    member: Selection,
+    node: (Pos, Access, &Name),
     whole: &Expr,
 ) -> Result<Operand, TypeFault>
     requires { ScopesIn types.old scopes.old }
-    ensures { AnswersPart (typed true (tree.Member member.at member.access (expr_of whole.now) member.name.now)
+    ensures { AnswersPart (typed true (tree.Member node.0 node.1 (expr_of whole.now) node.2.now)
         (env_of scopes.old types.old)) types.old scopes.new types.new result }
 {
-    let whole = side_operand(scopes, types, whole_usage(member.access), whole)?;
-    select(types, member, whole)
+    let whole = side_operand(scopes, types, whole_usage(node.1), whole)?;
+    select(types, (node.0, node.1), node.2, whole)
 }
 
 /// `inner++` and `inner--` (6.5.2.4)
@@ -130,15 +86,15 @@ pub(crate) fn member_operand(
 pub(crate) fn postfix_operand(
     scopes: &mut Scopes,
     types: &mut TypeTable,
-    node: PostfixAt,
+    node: (Pos, Postfix),
     inner: &Expr,
 ) -> Result<Operand, TypeFault>
     requires { ScopesIn types.old scopes.old }
-    ensures { AnswersPart (typed true (tree.PostfixOp node.at node.operator (expr_of inner.now))
+    ensures { AnswersPart (typed true (tree.PostfixOp node.0 node.1 (expr_of inner.now))
         (env_of scopes.old types.old)) types.old scopes.new types.new result }
 {
     let made = operand(scopes, types, true, inner)?;
-    postfix(types, node.at, is_decrement(node.operator), made)
+    postfix(types, node.0, is_decrement(node.1), made)
 }
 
 /// An operator before its operand (6.5.3)
@@ -146,15 +102,15 @@ pub(crate) fn postfix_operand(
 pub(crate) fn prefix_operand(
     scopes: &mut Scopes,
     types: &mut TypeTable,
-    node: PrefixAt,
+    node: (Pos, Prefix),
     inner: &Expr,
 ) -> Result<Operand, TypeFault>
     requires { ScopesIn types.old scopes.old }
-    ensures { AnswersPart (typed true (tree.PrefixOp node.at node.operator (expr_of inner.now))
+    ensures { AnswersPart (typed true (tree.PrefixOp node.0 node.1 (expr_of inner.now))
         (env_of scopes.old types.old)) types.old scopes.new types.new result }
 {
-    let made = side_operand(scopes, types, prefix_usage(node.operator), inner)?;
-    prefixed(types, node.at, node.operator, made)
+    let made = side_operand(scopes, types, prefix_usage(node.1), inner)?;
+    prefixed(types, node.0, node.1, made)
 }
 
 /// `sizeof` and `_Alignof` of a type name (6.5.3.4)
@@ -162,15 +118,15 @@ pub(crate) fn prefix_operand(
 pub(crate) fn measure_operand(
     scopes: &mut Scopes,
     types: &mut TypeTable,
-    node: MeasureAt,
+    node: (Pos, Measure),
     name: &TypeName,
 ) -> Result<Operand, TypeFault>
     requires { ScopesIn types.old scopes.old }
-    ensures { AnswersPart (typed true (tree.MeasureOp node.at node.operator (type_name_of name.now))
+    ensures { AnswersPart (typed true (tree.MeasureOp node.0 node.1 (type_name_of name.now))
         (env_of scopes.old types.old)) types.old scopes.new types.new result }
 {
-    let of = named(scopes, types, node.at, name)?;
-    measure(types, node.at, node.operator, of)
+    let of = named(scopes, types, node.0, name)?;
+    measure(types, node.0, node.1, of)
 }
 
 /// `(type name) inner` (6.5.4)
@@ -178,16 +134,16 @@ pub(crate) fn measure_operand(
 pub(crate) fn cast_operand(
     scopes: &mut Scopes,
     types: &mut TypeTable,
-    node: Cast,
+    node: (Pos, &TypeName),
     inner: &Expr,
 ) -> Result<Operand, TypeFault>
     requires { ScopesIn types.old scopes.old }
-    ensures { AnswersPart (typed true (tree.Cast node.at (type_name_of node.name.now) (expr_of inner.now))
+    ensures { AnswersPart (typed true (tree.Cast node.0 (type_name_of node.1.now) (expr_of inner.now))
         (env_of scopes.old types.old)) types.old scopes.new types.new result }
 {
-    let to = named(scopes, types, node.at, node.name)?;
+    let to = named(scopes, types, node.0, node.1)?;
     let made = side_operand(scopes, types, cast_usage(types, to), inner)?;
-    cast_to(types, node.at, to, made)
+    cast_to(types, node.0, to, made)
 }
 
 /// Two operands and the operator between them (6.5.5 to 6.5.14, 6.5.16, 6.5.17)
@@ -195,20 +151,20 @@ pub(crate) fn cast_operand(
 pub(crate) fn infix_operand(
     scopes: &mut Scopes,
     types: &mut TypeTable,
-    node: Between,
+    node: (bool, Pos, Infix),
     sides: Sides,
 ) -> Result<Operand, TypeFault>
     requires { ScopesIn types.old scopes.old }
-    ensures { AnswersPart (typed node.used (tree.InfixOp node.at node.operator (expr_of sides.left.now)
+    ensures { AnswersPart (typed node.0 (tree.InfixOp node.1 node.2 (expr_of sides.left.now)
         (expr_of sides.right.now)) (env_of scopes.old types.old)) types.old scopes.new types.new result }
 {
-    let usages = infix_usages(node.used, node.operator);
+    let usages = infix_usages(node.0, node.2);
     let both = two_operands(scopes, types, usages, sides)?;
     let places = Places {
-        at: node.at,
+        at: node.1,
         right: place_of(sides.right),
     };
-    joined(types, places, node.operator, both)
+    joined(types, places, node.2, both)
 }
 
 /// `test ? left : right` (6.5.15)
@@ -216,14 +172,14 @@ pub(crate) fn infix_operand(
 pub(crate) fn conditional_operand(
     scopes: &mut Scopes,
     types: &mut TypeTable,
-    node: Question,
+    node: (bool, Pos, &Expr),
     sides: Sides,
 ) -> Result<Operand, TypeFault>
     requires { ScopesIn types.old scopes.old }
-    ensures { AnswersPart (typed node.used (tree.Cond node.at (expr_of node.test.now) (expr_of sides.left.now)
+    ensures { AnswersPart (typed node.0 (tree.Cond node.1 (expr_of node.2.now) (expr_of sides.left.now)
         (expr_of sides.right.now)) (env_of scopes.old types.old)) types.old scopes.new types.new result }
 {
-    let test = test_core(scopes, types, node.test)?;
-    let both = two_operands(scopes, types, choice_usages(node.used), sides)?;
-    conditional(types, node.at, test, both)
+    let test = test_core(scopes, types, node.2)?;
+    let both = two_operands(scopes, types, choice_usages(node.0), sides)?;
+    conditional(types, node.1, test, both)
 }

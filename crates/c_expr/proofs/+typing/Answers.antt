@@ -10,7 +10,7 @@ use Rattle.c_core.specs.View.{core_of}
 use Rattle.c_core.proofs.Kept.{core_kept, core_in_kept, id_in_kept, type_kept}
 use Rattle.c_syntax.specs.View.{expr_of, exprs, type_name_of}
 use Rattle.c_syntax.proofs.SpelledLists.{call_of, type_measure, casts}
-use Rattle.c_scopes.specs.Clauses.{Rules, type_or_none}
+use Rattle.c_scopes.specs.Clauses.{BreaksAt, Rules, type_or_none}
 use Rattle.c_scopes.specs.Env.{env_of}
 use Rattle.c_scopes.proofs.Growth.{scopes_stay_in}
 use Rattle.c_conversions.specs.Parts.{Part, part_of, PartIn}
@@ -25,7 +25,7 @@ use Rattle.c_expr.specs.Uses.{as_argument, as_test, as_unused, as_used, as_value
 use Rattle.c_expr.proofs.Parts.{part_kept, part_in_kept, option_kept, option_in_kept, both_given, side_named}
 use Rattle.c_expr.proofs.Parts.{both_named}
 use Rattle.c_expr.proofs.Passing.{Passing, passing_none, passing_one, passing_refused, passing_all}
-use Rattle.c_expr.proofs.Steps.{answers_as, given_as, refused_as, refused_later, refused_then, settled, settled_at}
+use Rattle.c_expr.proofs.Steps.{answers_as, breaks_refused_at, given_as, refused_as, refused_later, refused_then, settled, settled_at}
 use Rattle.c_expr.proofs.Steps.{then_given, then_part}
 use Rattle.c_expr.proofs.Within.{size_within}
 use Rattle.c_expr.proofs.+typing.Goals as goal
@@ -284,7 +284,7 @@ unfolding typed
 node::infix_operand-returns t c =
     then_part part_of PartIn _ _ _ _ _ _ _ _ _ _
     (given_as _ _ _ _ _ _ _ (both_named _ _ _ _ _ c.infix_usages-usages.ensures) c.in_ok-both.ensures)
-    (subst (λ right. Answers part_of PartIn (joined c.args.node.at right c.args.node.operator
+    (subst (λ right. Answers part_of PartIn (joined c.args.node.1 right c.args.node.2
     (part_of c.two_operands.new.types c.in_ok-both.both.left) (part_of c.two_operands.new.types c.in_ok-both.both.right)
     (env_of c.two_operands.new.scopes c.two_operands.new.types)) c.two_operands.new.types c.two_operands.new.scopes
     c.joined.new.types c.joined.result) c.place_of.ensures
@@ -302,8 +302,8 @@ unfolding typed
 node::postfix_operand-returns t c =
     then_part part_of PartIn _ _ _ _ _ _ _ _ _ _ c.in_ok-made.ensures
     (settled part_of PartIn _ _ _ _ _ _ c.in_ok-made.ensures.here
-    (subst (λ back. Rules part_of PartIn (postfix_rule (structures_of c.operand.new.types) c.args.node.at back
-    (part_of c.operand.new.types c.in_ok-made.made)) c.args.node.at c.operand.new.types c.postfix.new.types
+    (subst (λ back. Rules part_of PartIn (postfix_rule (structures_of c.operand.new.types) c.args.node.0 back
+    (part_of c.operand.new.types c.in_ok-made.made)) c.args.node.0 c.operand.new.types c.postfix.new.types
     c.postfix.result) c.is_decrement.ensures c.postfix.ensures))
 
 pub node::postfix_operand-returns-in_err-made : goal.node::postfix_operand-returns-in_err-made
@@ -333,8 +333,8 @@ node::cast_operand-returns t c =
     (then_part part_of PartIn _ _ _ _ _ _ _ _ _ _
     (given_as _ _ _ _ _ _ _ (side_named _ _ _ _ c.cast_usage.ensures) made)
     (settled part_of PartIn _ _ _ _ _ _ made.here
-    (subst (λ (type : CType). Rules part_of PartIn (cast_to_rule c.args.node.at type
-    (part_of c.side_operand.new.types c.in_ok-made.made)) c.args.node.at c.side_operand.new.types c.cast_to.new.types
+    (subst (λ (type : CType). Rules part_of PartIn (cast_to_rule c.args.node.0 type
+    (part_of c.side_operand.new.types c.in_ok-made.made)) c.args.node.0 c.side_operand.new.types c.cast_to.new.types
     c.cast_to.result)
     (type_kept c.named.new.types c.side_operand.new.types made.grown c.in_ok-to.to to.is_in) c.cast_to.ensures)))
 
@@ -360,9 +360,9 @@ node::conditional_operand-returns t c =
     (then_part part_of PartIn _ _ _ _ _ _ _ _ _ _
     (given_as _ _ _ _ _ _ _ (both_named _ _ _ _ _ c.choice_usages.ensures) both)
     (settled part_of PartIn _ _ _ _ _ _ both.here
-    (subst (λ (core : Core). Rules part_of PartIn (conditional_rule c.args.node.at core
+    (subst (λ (core : Core). Rules part_of PartIn (conditional_rule c.args.node.1 core
     (part_of c.two_operands.new.types c.in_ok-both.both.left)
-    (part_of c.two_operands.new.types c.in_ok-both.both.right)) c.args.node.at c.two_operands.new.types
+    (part_of c.two_operands.new.types c.in_ok-both.both.right)) c.args.node.1 c.two_operands.new.types
     c.conditional.new.types c.conditional.result)
     (core_kept c.test_core.new.types c.two_operands.new.types both.grown c.in_ok-test.test test.is_in)
     c.conditional.ensures)))
@@ -412,7 +412,14 @@ call::argument-returns-in_err-made t c =
 pub call::argument-returns-in_err-value : goal.call::argument-returns-in_err-value
 unfolding as_argument
 call::argument-returns-in_err-value t c =
-    ?
+    let p = err_from_is_err_and c.from_residual-in_err-value.result c.from_residual-in_err-value.ensures.1 in
+    let made = c.in_ok-made.ensures in
+    let mid = c.operand.new.types in
+    let first = option_kept c.args.types.now mid made.grown c.args.place.parameter c.requires.parameter in
+    rw (p.1, p.2) (refused_later _ _ _ _ _ _ _ _ made
+    (refused_then _ _ _ (breaks_refused_at _ _ _ _ _ c.place_of-at.ensures
+    (subst (λ (p : Option CType). BreaksAt (argument_value_rule (structures_of mid) p (part_of mid c.in_ok-made.made))
+    c.place_of-at.result _) first c.in_err-value.ensures))))
 
 pub call::arguments-loop-index-init : goal.call::arguments-loop-index-init
 call::arguments-loop-index-init t c =
@@ -426,8 +433,8 @@ call::call_operand-returns t c =
     then_part part_of PartIn _ _ _ _ _ _ _ _ _ _ function
     (then_part part_of PartIn _ _ _ _ _ _ _ _ _ _ all
     (settled part_of PartIn _ _ _ _ _ _ all.here
-    (subst (λ (f : Part). Rules part_of PartIn (call_rule (structures_of c.arguments.new.types) c.args.node.at
-    c.args.node.used f (cores_of c.arguments.new.types c.in_ok-arguments.arguments)) c.args.node.at
+    (subst (λ (f : Part). Rules part_of PartIn (call_rule (structures_of c.arguments.new.types) c.args.node.1
+    c.args.node.0 f (cores_of c.arguments.new.types c.in_ok-arguments.arguments)) c.args.node.1
     c.arguments.new.types c.arguments.new.types c.call.result)
     (part_kept c.used_operand.new.types c.arguments.new.types all.grown c.in_ok-function.function function.is_in)
     c.call.ensures)))
@@ -444,3 +451,8 @@ call::call_operand-returns-in_err-arguments t c =
     let p = err_from_is_err_and c.from_residual-in_err-arguments.result c.from_residual-in_err-arguments.ensures.1 in
     rw (p.1, p.2) (refused_later _ _ _ _ _ _ _ _ c.in_ok-function.ensures
     (refused_then _ _ _ c.in_err-arguments.ensures))
+
+pub call::arguments-expected_at-requires : goal.call::arguments-expected_at-requires
+call::arguments-expected_at-requires t c =
+    part_in_kept c.args.types.now c.loop-index.types c.loop-index.invariant.grown c.args.function.now
+    c.requires.function

@@ -45,7 +45,7 @@ decreases-node::infix_operand l =
 
 abbrev pub decreases-node::conditional_operand : goal.decreases-node::conditional_operand
 decreases-node::conditional_operand l =
-    16 * (size (expr_of l.node.test.now) + size (expr_of l.sides.left.now) + size (expr_of l.sides.right.now)) + 5
+    16 * (size (expr_of l.node.2.now) + size (expr_of l.sides.left.now) + size (expr_of l.sides.right.now)) + 5
 
 abbrev pub decreases-node::member_operand : goal.decreases-node::member_operand
 decreases-node::member_operand l = 16 * size (expr_of l.whole.now) + 4
@@ -61,11 +61,11 @@ decreases-node::measure_operand l = 16 * type_name_size (type_name_of l.name.now
 
 abbrev pub decreases-node::cast_operand : goal.decreases-node::cast_operand
 decreases-node::cast_operand l =
-    16 * (type_name_size (type_name_of l.node.name.now) + size (expr_of l.inner.now)) + 8
+    16 * (type_name_size (type_name_of l.node.1.now) + size (expr_of l.inner.now)) + 8
 
 abbrev pub decreases-call::call_operand : goal.decreases-call::call_operand
 decreases-call::call_operand l =
-    16 * (size (expr_of l.node.function.now) + exprs_size (exprs (map expr_of l.list.now))) + 4
+    16 * (size (expr_of l.node.2.now) + exprs_size (exprs (map expr_of l.list.now))) + 4
 
 abbrev pub decreases-call::arguments : goal.decreases-call::arguments
 decreases-call::arguments l = 16 * exprs_size (exprs (map expr_of l.list.now)) + 3
