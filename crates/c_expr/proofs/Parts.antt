@@ -52,7 +52,7 @@ module _ (old new : Types) (grown : Grows old new) where
 pub both_given : (first : Answer Part) (second : Env → Answer Part) (l r : Operand) (old mid new : Types)
     (scopes after : List Scope) → Given first (part_of mid l) (λ t. PartIn t l) old scopes mid
     → Given (second (env_of scopes mid)) (part_of new r) (λ t. PartIn t r) mid after new
-    → Given (and_then first (λ a env. and_then (second env) (λ b env. Gives (a, b) env)))
+    → Given {A = Part × Part} (and_then first (λ a env. and_then (second env) (λ b env. Gives (a, b) env)))
     (part_of new l, part_of new r) (λ t. PartIn t l × PartIn t r) old after new
 both_given first second l r old mid new scopes after left right = record {
   is = then_given first (part_of mid l) (env_of scopes mid)

@@ -1,6 +1,6 @@
 -- Arguments one by one: those that were passed, and those that are left.
 use Rattle.std.proofs.Common.{◌≡◌, ◌∙◌, ◌+◌, ◌<◌, ◌≤◌, ◌++◌, ℕ, Bool, List, [], ◌∷◌, length, get_or, drop, map}
-use Rattle.std.proofs.Common.{refl, ap, sym, true}
+use Rattle.std.proofs.Common.{refl, ap, sym, subst, true}
 use Rattle.std.specs.Prelude.{Option}
 use Rattle.std.proofs.Math.ListN.{drop_of_length-le}
 use Rattle.std.proofs.Math.Numerals.{add-one}
@@ -70,13 +70,16 @@ pub record Passing (whole : Answer Cores) (parameters : CTypes) (variadic : Bool
 -- none yet
 pub passing_none : (left : Exprs) (parameters : CTypes) (variadic : Bool) (scopes : List Scope) (types : Types)
     → ScopesIn types scopes
-    → Passing (passed left parameters variadic (env_of scopes types)) parameters variadic left 0 types scopes types []
-passing_none left parameters variadic scopes types here = record {
-  is = onto_none (passed left parameters variadic (env_of scopes types));
-  is_in = tt;
-  here = here;
-  grown = grows_own types;
-}
+    → (done : List CoreExpr) → done ≡ []
+    → Passing (passed left parameters variadic (env_of scopes types)) parameters variadic left 0 types scopes types done
+passing_none left parameters variadic scopes types here done e =
+    subst (λ (all : List CoreExpr). Passing (passed left parameters variadic (env_of scopes types)) parameters variadic
+    left 0 types scopes types all) (sym e) (record {
+      is = onto_none (passed left parameters variadic (env_of scopes types));
+      is_in = tt;
+      here = here;
+      grown = grows_own types;
+    })
 
 map_one : {A B : Type 0} (f : A → B) (all : List A) (x : A) → map f (all ++ x ∷ []) ≡ map f all ++ f x ∷ []
 map_one f [] x = refl
@@ -129,7 +132,9 @@ module _ (whole : Answer Cores) (parameters : CTypes) (variadic : Bool) (first :
         (sym (cores_kept mid new given.grown done before.is_in))
         ∙ ap (λ all. onto all
         (passed rest (behind_first (types_behind count parameters)) variadic (env_of after new)))
-        (sym (map_one (core_of new) done core));
+        (sym (map_one (core_of new) done core))
+        ∙ ap (λ n. onto (map (core_of new) (done ++ core ∷ []))
+        (passed rest (types_behind n parameters) variadic (env_of after new))) (sym (add-one count));
     is_in = all_in new done core (cores_in_kept mid new given.grown done before.is_in) given.is_in;
     here = given.here;
     grown = grows_then old mid new before.grown given.grown;

@@ -1,5 +1,5 @@
 -- A part of a list of trees has less than the list.
-use Rattle.std.proofs.Common.{ℕ, ◌<◌, List, [], ◌∷◌, length, map, get_or, arith}
+use Rattle.std.proofs.Common.{ℕ, zero, suc, ◌<◌, List, [], ◌∷◌, length, map, get_or, arith}
 use Rattle.c_syntax.specs.declared.expression.Expr as e
 use Rattle.c_syntax.specs.View.{expr_of, exprs}
 use Rattle.c_expr.proofs.Size.{size, exprs_size}

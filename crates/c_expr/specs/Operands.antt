@@ -1,5 +1,5 @@
 -- The rules of expressions by the operators of the grammar, and of arguments by the function that is called.
-use Rattle.std.specs.Prelude.{ℕ, ℤ, Bool, true, false, cond, length, List, sum_by, Option, Some, None}
+use Rattle.std.specs.Prelude.{ℕ, zero, suc, ℤ, Bool, true, false, cond, length, List, sum_by, Option, Some, None}
 use Rattle.critical_table.specs.declared.pos.Pos.{Pos}
 use Rattle.c_types.specs.CType.{CType, CTypes, Nil, Cons}
 use Rattle.c_types.specs.Functions.{parameters_of, variadic_of}

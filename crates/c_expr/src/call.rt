@@ -1,6 +1,6 @@
 //! Calls: the function, then the arguments in order, then the call by its rule (6.5.2.2).
 
-ghost use Rattle.std.specs.Prelude.{map};
+ghost use Rattle.std.specs.Prelude.{map, true};
 ghost use Rattle.c_scopes.specs.Clauses.{OptionIn, type_or_none};
 ghost use Rattle.c_scopes.specs.Env.{ScopesIn, env_of};
 ghost use Rattle.c_syntax.specs.Tree as tree;
@@ -32,7 +32,7 @@ pub(crate) fn call_operand(
     list: &[Expr],
 ) -> Result<Operand, TypeFault>
     requires { ScopesIn types.old scopes.old }
-    ensures { AnswersPart (typed node.0 (tree.Call node.1 (expr_of node.2.now)
+    ensures { AnswersPart (typed node.entry.0 (tree.Call node.entry.1 (expr_of node.entry.2.now)
         (exprs (map expr_of list.now))) (env_of scopes.old types.old)) types.old scopes.new types.new result }
 {
     let function = used_operand(scopes, types, true, node.2)?;

@@ -1,7 +1,6 @@
 //! The walk over an expression: its parts in order, and then the node by its rule (6.5).
 
-ghost use Rattle.c_core.specs.Ids.{CoreIn};
-ghost use Rattle.c_core.specs.View.{core_of};
+ghost use Rattle.std.specs.Prelude.{true, false};
 ghost use Rattle.c_scopes.specs.Env.{ScopesIn, env_of};
 ghost use Rattle.c_syntax.specs.View.{expr_of};
 ghost use Rattle.c_expr.specs.Clauses.{AnswersCore, AnswersPart};

@@ -1,5 +1,6 @@
 //! Nodes of an expression: the operands in order, and then the operator by its rule (6.5.2 to 6.5.17).
 
+ghost use Rattle.std.specs.Prelude.{true};
 ghost use Rattle.c_scopes.specs.Env.{ScopesIn, env_of};
 ghost use Rattle.c_syntax.specs.Tree as tree;
 ghost use Rattle.c_syntax.specs.View.{expr_of, type_name_of};
@@ -41,7 +42,7 @@ fn two_operands(
     sides: Sides,
 ) -> Result<Operands, TypeFault>
     requires { ScopesIn types.old scopes.old }
-    ensures { AnswersParts (spec.both usages (side_of (expr_of sides.left.now)) (side_of (expr_of sides.right.now))
+    ensures { AnswersParts (spec.both usages (side_of (expr_of sides.entry.left.now)) (side_of (expr_of sides.entry.right.now))
         (env_of scopes.old types.old)) types.old scopes.new types.new result }
 {
     let left = side_operand(scopes, types, usages.left, sides.left)?;
@@ -58,7 +59,7 @@ pub(crate) fn index_operand(
     sides: Sides,
 ) -> Result<Operand, TypeFault>
     requires { ScopesIn types.old scopes.old }
-    ensures { AnswersPart (typed true (tree.Index at (expr_of sides.left.now) (expr_of sides.right.now))
+    ensures { AnswersPart (typed true (tree.Index at (expr_of sides.entry.left.now) (expr_of sides.entry.right.now))
         (env_of scopes.old types.old)) types.old scopes.new types.new result }
 {
     let both = two_operands(scopes, types, two_values(), sides)?;
@@ -74,7 +75,7 @@ pub(crate) fn member_operand(
     whole: &Expr,
 ) -> Result<Operand, TypeFault>
     requires { ScopesIn types.old scopes.old }
-    ensures { AnswersPart (typed true (tree.Member node.0 node.1 (expr_of whole.now) node.2.now)
+    ensures { AnswersPart (typed true (tree.Member node.entry.0 node.entry.1 (expr_of whole.now) node.entry.2.now)
         (env_of scopes.old types.old)) types.old scopes.new types.new result }
 {
     let whole = side_operand(scopes, types, whole_usage(node.1), whole)?;
@@ -138,7 +139,7 @@ pub(crate) fn cast_operand(
     inner: &Expr,
 ) -> Result<Operand, TypeFault>
     requires { ScopesIn types.old scopes.old }
-    ensures { AnswersPart (typed true (tree.Cast node.0 (type_name_of node.1.now) (expr_of inner.now))
+    ensures { AnswersPart (typed true (tree.Cast node.entry.0 (type_name_of node.entry.1.now) (expr_of inner.now))
         (env_of scopes.old types.old)) types.old scopes.new types.new result }
 {
     let to = named(scopes, types, node.0, node.1)?;
@@ -155,8 +156,8 @@ pub(crate) fn infix_operand(
     sides: Sides,
 ) -> Result<Operand, TypeFault>
     requires { ScopesIn types.old scopes.old }
-    ensures { AnswersPart (typed node.0 (tree.InfixOp node.1 node.2 (expr_of sides.left.now)
-        (expr_of sides.right.now)) (env_of scopes.old types.old)) types.old scopes.new types.new result }
+    ensures { AnswersPart (typed node.0 (tree.InfixOp node.1 node.2 (expr_of sides.entry.left.now)
+        (expr_of sides.entry.right.now)) (env_of scopes.old types.old)) types.old scopes.new types.new result }
 {
     let usages = infix_usages(node.0, node.2);
     let both = two_operands(scopes, types, usages, sides)?;
@@ -176,8 +177,8 @@ pub(crate) fn conditional_operand(
     sides: Sides,
 ) -> Result<Operand, TypeFault>
     requires { ScopesIn types.old scopes.old }
-    ensures { AnswersPart (typed node.0 (tree.Cond node.1 (expr_of node.2.now) (expr_of sides.left.now)
-        (expr_of sides.right.now)) (env_of scopes.old types.old)) types.old scopes.new types.new result }
+    ensures { AnswersPart (typed node.entry.0 (tree.Cond node.entry.1 (expr_of node.entry.2.now) (expr_of sides.entry.left.now)
+        (expr_of sides.entry.right.now)) (env_of scopes.old types.old)) types.old scopes.new types.new result }
 {
     let test = test_core(scopes, types, node.2)?;
     let both = two_operands(scopes, types, choice_usages(node.0), sides)?;

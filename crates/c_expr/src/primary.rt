@@ -1,12 +1,10 @@
 //! Constants, names and string literals (6.5.1).
 
-ghost use Rattle.std.specs.Prelude.{◌≡◌, ◌+◌, ◌≤◌, ◌^◌, MatchOption, map};
-ghost use Rattle.c_types.specs.Structures.{structures_of};
+ghost use Rattle.std.specs.Prelude.{◌≡◌, ◌≤◌, ◌^◌, MatchOption, false};
 ghost use Rattle.c_scopes.specs.Clauses.{Rules};
 ghost use Rattle.c_scopes.specs.Env.{ScopesIn, env_of};
 ghost use Rattle.c_scopes.specs.Scopes.{found};
 ghost use Rattle.c_conversions.specs.Parts.{part_of, PartIn};
-ghost use Rattle.c_syntax.specs.View.{literals_of};
 ghost use Rattle.c_expr_rules.specs.Primary as primary;
 ghost use Rattle.c_expr.specs.Operands as rule;
 

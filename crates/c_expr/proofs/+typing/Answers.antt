@@ -1,9 +1,10 @@
 -- The goals of the walk over expressions: the parts of a node in order, and then the node by its rule.
-use Rattle.std.proofs.Common.{◌≡◌, ◌∙◌, ◌+◌, ap, sym, subst, map, drop, length, rules, arith, refl}
+use Rattle.std.proofs.Common.{◌≡◌, ◌∙◌, ◌<◌, List, ap, sym, subst, map, length, arith}
 use Rattle.std.specs.Prelude.{Option, Ok}
 use Rattle.std.proofs.lemmas.Result.{err_from_is_err_and}
 use Rattle.c_types.specs.CType.{CType, type_of}
 use Rattle.c_types.specs.Structures.{structures_of}
+use Rattle.c_core.specs.declared.expression.CoreExpr.{CoreExpr}
 use Rattle.c_core.specs.Ids.{CoreIn, IdIn}
 use Rattle.c_core.specs.Tree.{Core, cores}
 use Rattle.c_core.specs.View.{core_of}
@@ -19,12 +20,16 @@ use Rattle.c_expr_rules.specs.Primary.{literal_rule, name_rule}
 use Rattle.c_operator_rules.specs.Conditional.{conditional_rule}
 use Rattle.c_operator_rules.specs.Assignment.{postfix_rule}
 use Rattle.c_expr.specs.Clauses.{Answers, cores_of, AllIn, parts_of, PartsIn}
-use Rattle.c_expr.specs.Operands.{argument_rule, argument_value_rule, cast_to_rule, constant_rule}
+use Rattle.c_expr.specs.Answers.{settle}
+use Rattle.c_expr.specs.Operands.{argument_rule, argument_value_rule, callee_parameters, callee_varies}
+use Rattle.c_expr.specs.Operands.{cast_to_rule, first_of, types_behind}
+use Rattle.c_expr.specs.Shapes.{place_of}
 use Rattle.c_expr.specs.Typing.{typed, passed, side_of}
 use Rattle.c_expr.specs.Uses.{as_argument, as_test, as_unused, as_used, as_value, both, joined, side_as}
 use Rattle.c_expr.proofs.Parts.{part_kept, part_in_kept, option_kept, option_in_kept, both_given, side_named}
 use Rattle.c_expr.proofs.Parts.{both_named}
-use Rattle.c_expr.proofs.Passing.{Passing, passing_none, passing_one, passing_refused, passing_all}
+use Rattle.c_expr.proofs.Passing.{Passing, passing_none, passing_next, passing_stopped, passing_end}
+use Rattle.c_expr.proofs.Size.{size, exprs_size}
 use Rattle.c_expr.proofs.Steps.{answers_as, breaks_refused_at, given_as, refused_as, refused_later, refused_then, settled, settled_at}
 use Rattle.c_expr.proofs.Steps.{then_given, then_part}
 use Rattle.c_expr.proofs.Within.{size_within}
@@ -147,21 +152,21 @@ expression::operand-returns-in-Text t c =
 pub expression::operand-returns-in-Paren : goal.expression::operand-returns-in-Paren
 unfolding typed
 expression::operand-returns-in-Paren t c =
-    answers_as part_of PartIn _ _ _ _ _ _
+    answers_as part_of PartIn _ _ c.args.types.now c.operand.new.types c.operand.new.scopes c.operand.result
     (ap (λ x. typed c.args.used (expr_of x) (env_of c.args.scopes.now c.args.types.now)) c.in-Paren.is)
     c.operand.ensures
 
 pub expression::operand-returns-in-Index : goal.expression::operand-returns-in-Index
 unfolding typed
 expression::operand-returns-in-Index t c =
-    answers_as part_of PartIn _ _ _ _ _ _
+    answers_as part_of PartIn _ _ c.args.types.now c.index_operand.new.types c.index_operand.new.scopes c.index_operand.result
     (ap (λ x. typed c.args.used (expr_of x) (env_of c.args.scopes.now c.args.types.now)) c.in-Index.is)
     c.index_operand.ensures
 
 pub expression::operand-returns-in-Call : goal.expression::operand-returns-in-Call
 unfolding typed
 expression::operand-returns-in-Call t c =
-    answers_as part_of PartIn _ _ _ _ _ _
+    answers_as part_of PartIn _ _ c.args.types.now c.call_operand.new.types c.call_operand.new.scopes c.call_operand.result
     (ap (λ x. typed c.args.used (expr_of x) (env_of c.args.scopes.now c.args.types.now)) c.in-Call.is
     ∙ ap (λ x. typed c.args.used x (env_of c.args.scopes.now c.args.types.now))
     (call_of c.in-Call.at c.in-Call.function c.in-Call.arguments))
@@ -170,28 +175,28 @@ expression::operand-returns-in-Call t c =
 pub expression::operand-returns-in-Member : goal.expression::operand-returns-in-Member
 unfolding typed
 expression::operand-returns-in-Member t c =
-    answers_as part_of PartIn _ _ _ _ _ _
+    answers_as part_of PartIn _ _ c.args.types.now c.member_operand.new.types c.member_operand.new.scopes c.member_operand.result
     (ap (λ x. typed c.args.used (expr_of x) (env_of c.args.scopes.now c.args.types.now)) c.in-Member.is)
     c.member_operand.ensures
 
 pub expression::operand-returns-in-Postfix : goal.expression::operand-returns-in-Postfix
 unfolding typed
 expression::operand-returns-in-Postfix t c =
-    answers_as part_of PartIn _ _ _ _ _ _
+    answers_as part_of PartIn _ _ c.args.types.now c.postfix_operand.new.types c.postfix_operand.new.scopes c.postfix_operand.result
     (ap (λ x. typed c.args.used (expr_of x) (env_of c.args.scopes.now c.args.types.now)) c.in-Postfix.is)
     c.postfix_operand.ensures
 
 pub expression::operand-returns-in-Prefix : goal.expression::operand-returns-in-Prefix
 unfolding typed
 expression::operand-returns-in-Prefix t c =
-    answers_as part_of PartIn _ _ _ _ _ _
+    answers_as part_of PartIn _ _ c.args.types.now c.prefix_operand.new.types c.prefix_operand.new.scopes c.prefix_operand.result
     (ap (λ x. typed c.args.used (expr_of x) (env_of c.args.scopes.now c.args.types.now)) c.in-Prefix.is)
     c.prefix_operand.ensures
 
 pub expression::operand-returns-in-Measure : goal.expression::operand-returns-in-Measure
 unfolding typed
 expression::operand-returns-in-Measure t c =
-    answers_as part_of PartIn _ _ _ _ _ _
+    answers_as part_of PartIn _ _ c.args.types.now c.measure_operand.new.types c.measure_operand.new.scopes c.measure_operand.result
     (ap (λ x. typed c.args.used (expr_of x) (env_of c.args.scopes.now c.args.types.now)) c.in-Measure.is
     ∙ ap (λ x. typed c.args.used x (env_of c.args.scopes.now c.args.types.now))
     (type_measure c.in-Measure.at c.in-Measure.operator c.in-Measure.name))
@@ -200,7 +205,7 @@ expression::operand-returns-in-Measure t c =
 pub expression::operand-returns-in-Cast : goal.expression::operand-returns-in-Cast
 unfolding typed
 expression::operand-returns-in-Cast t c =
-    answers_as part_of PartIn _ _ _ _ _ _
+    answers_as part_of PartIn _ _ c.args.types.now c.cast_operand.new.types c.cast_operand.new.scopes c.cast_operand.result
     (ap (λ x. typed c.args.used (expr_of x) (env_of c.args.scopes.now c.args.types.now)) c.in-Cast.is
     ∙ ap (λ x. typed c.args.used x (env_of c.args.scopes.now c.args.types.now))
     (casts c.in-Cast.at c.in-Cast.name c.in-Cast.inner))
@@ -209,14 +214,14 @@ expression::operand-returns-in-Cast t c =
 pub expression::operand-returns-in-Infix : goal.expression::operand-returns-in-Infix
 unfolding typed
 expression::operand-returns-in-Infix t c =
-    answers_as part_of PartIn _ _ _ _ _ _
+    answers_as part_of PartIn _ _ c.args.types.now c.infix_operand.new.types c.infix_operand.new.scopes c.infix_operand.result
     (ap (λ x. typed c.args.used (expr_of x) (env_of c.args.scopes.now c.args.types.now)) c.in-Infix.is)
     c.infix_operand.ensures
 
 pub expression::operand-returns-in-Cond : goal.expression::operand-returns-in-Cond
 unfolding typed
 expression::operand-returns-in-Cond t c =
-    answers_as part_of PartIn _ _ _ _ _ _
+    answers_as part_of PartIn _ _ c.args.types.now c.conditional_operand.new.types c.conditional_operand.new.scopes c.conditional_operand.result
     (ap (λ x. typed c.args.used (expr_of x) (env_of c.args.scopes.now c.args.types.now)) c.in-Cond.is)
     c.conditional_operand.ensures
 
@@ -392,7 +397,7 @@ call::argument-returns t c =
     let parameter = c.args.place.parameter in
     let first = option_kept old mid made.grown parameter c.requires.parameter in
     then_part core_of CoreIn _ _ _ _ _ _ _ _ _ _ made
-    (then_part core_of CoreIn _ _ _ _ _ mid mid2 _ _ _ _
+    (then_part core_of CoreIn _ _ _ _ mid mid2 _ _ _ _
     (settled_at part_of PartIn _ _ _ _ mid mid2 (Ok c.in_ok-value.value) place made.here
     (subst (λ (p : Option CType). Rules part_of PartIn (argument_value_rule (structures_of mid) p
     (part_of mid c.in_ok-made.made)) c.place_of-at.result mid mid2 (Ok c.in_ok-value.value)) first value))
@@ -417,13 +422,13 @@ call::argument-returns-in_err-value t c =
     let mid = c.operand.new.types in
     let first = option_kept c.args.types.now mid made.grown c.args.place.parameter c.requires.parameter in
     rw (p.1, p.2) (refused_later _ _ _ _ _ _ _ _ made
-    (refused_then _ _ _ (breaks_refused_at _ _ _ _ _ c.place_of-at.ensures
-    (subst (λ (p : Option CType). BreaksAt (argument_value_rule (structures_of mid) p (part_of mid c.in_ok-made.made))
-    c.place_of-at.result _) first c.in_err-value.ensures))))
+    (refused_then _ _ _ (refused_as _ _ _ (ap (λ (p : Option CType). settle (place_of (expr_of c.args.expr.now))
+    (env_of c.operand.new.scopes mid) (argument_value_rule (structures_of mid) p (part_of mid c.in_ok-made.made)))
+    (sym first)) (breaks_refused_at _ _ _ _ _ c.place_of-at.ensures c.in_err-value.ensures))))
 
 pub call::arguments-loop-index-init : goal.call::arguments-loop-index-init
 call::arguments-loop-index-init t c =
-    passing_none _ _ _ _ _ c.requires.here
+    passing_none _ _ _ _ _ c.requires.here _ c.new-made.ensures
 
 pub call::call_operand-returns : goal.call::call_operand-returns
 unfolding typed
@@ -452,7 +457,84 @@ call::call_operand-returns-in_err-arguments t c =
     rw (p.1, p.2) (refused_later _ _ _ _ _ _ _ _ c.in_ok-function.ensures
     (refused_then _ _ _ c.in_err-arguments.ensures))
 
-pub call::arguments-expected_at-requires : goal.call::arguments-expected_at-requires
-call::arguments-expected_at-requires t c =
+pub call::arguments-expected_at-place-requires : goal.call::arguments-expected_at-place-requires
+call::arguments-expected_at-place-requires t c =
     part_in_kept c.args.types.now c.loop-index.types c.loop-index.invariant.grown c.args.function.now
     c.requires.function
+
+pub call::arguments-argument-requires : goal.call::arguments-argument-requires
+call::arguments-argument-requires t c =
+    let x = c.loop-index-item.result in
+    let all = c.args.list.now in
+    let within : c.loop-index.index < length all = omega arith in
+    let less : size (expr_of x) < exprs_size (exprs (map expr_of all)) =
+        subst (λ y. size (expr_of y) < exprs_size (exprs (map expr_of all))) (sym c.loop-index-item.is)
+        (size_within all c.loop-index.index x within) in
+    (omega (arith, c.decreases, less), (c.loop-index.invariant.here, c.expected_at-place.ensures.is_in))
+
+pub call::arguments-loop-index-preserved : goal.call::arguments-loop-index-preserved
+call::arguments-loop-index-preserved t c =
+    let old = c.args.types.now in
+    let mid = c.loop-index.types in
+    let function = c.args.function.now in
+    let before = c.loop-index.invariant in
+    let kept = part_kept old mid before.grown function c.requires.function in
+    let place = c.expected_at-place.ensures in
+    let within : c.loop-index.index < length c.args.list.now = omega arith in
+    subst (λ (items : List CoreExpr). Passing _ _ _ _ _ _ _ _ items) (sym c.in_ok-push.ensures)
+    (passing_next _ _ _ c.args.list.now c.loop-index.index c.loop-index-item.result old mid c.loop-index.scopes _
+    _ _ within c.loop-index-item.is before
+    (place.parameter
+    ∙ ap (λ (p : Part). first_of (types_behind c.loop-index.index (callee_parameters p))) kept)
+    (place.variadic ∙ ap callee_varies kept) c.argument.new.types c.argument.new.scopes c.in_ok-core.core
+    c.in_ok-core.ensures)
+
+pub call::arguments-returns-in_err-core : goal.call::arguments-returns-in_err-core
+call::arguments-returns-in_err-core t c =
+    let p = err_from_is_err_and c.from_residual.result c.from_residual.ensures.1 in
+    let old = c.args.types.now in
+    let mid = c.loop-index.types in
+    let function = c.args.function.now in
+    let before = c.loop-index.invariant in
+    let kept = part_kept old mid before.grown function c.requires.function in
+    let place = c.expected_at-place.ensures in
+    let within : c.loop-index.index < length c.args.list.now = omega arith in
+    rw (p.1, p.2)
+    (passing_stopped _ _ _ c.args.list.now c.loop-index.index c.loop-index-item.result old mid c.loop-index.scopes _
+    _ _ within c.loop-index-item.is before
+    (place.parameter
+    ∙ ap (λ (p : Part). first_of (types_behind c.loop-index.index (callee_parameters p))) kept)
+    (place.variadic ∙ ap callee_varies kept) _ c.in_err-core.ensures)
+
+pub call::arguments-returns : goal.call::arguments-returns
+call::arguments-returns t c =
+    passing_end _ _ _ c.args.list.now c.loop-index.index _ _ _ _ (omega arith) c.loop-index.invariant
+
+pub call::call_operand-call-requires-clause-function : goal.call::call_operand-call-requires-clause-function
+call::call_operand-call-requires-clause-function t c =
+    part_in_kept c.used_operand.new.types c.arguments.new.types c.in_ok-arguments.ensures.grown
+    c.in_ok-function.function c.in_ok-function.ensures.is_in
+
+pub node::conditional_operand-conditional-requires-clause-test :
+    goal.node::conditional_operand-conditional-requires-clause-test
+node::conditional_operand-conditional-requires-clause-test t c =
+    core_in_kept c.test_core.new.types c.two_operands.new.types c.in_ok-both.ensures.grown c.in_ok-test.test
+    c.in_ok-test.ensures.is_in
+
+pub expression::operand-call_operand-requires : goal.expression::operand-call_operand-requires
+expression::operand-call_operand-requires t c =
+    let e = ap (λ x. size (expr_of x)) c.in-Call.is
+    ∙ ap size (call_of c.in-Call.at c.in-Call.function c.in-Call.arguments) in
+    (omega (arith, c.decreases, e), c.requires)
+
+pub expression::operand-measure_operand-requires : goal.expression::operand-measure_operand-requires
+expression::operand-measure_operand-requires t c =
+    let e = ap (λ x. size (expr_of x)) c.in-Measure.is
+    ∙ ap size (type_measure c.in-Measure.at c.in-Measure.operator c.in-Measure.name) in
+    (omega (arith, c.decreases, e), c.requires)
+
+pub expression::operand-cast_operand-requires : goal.expression::operand-cast_operand-requires
+expression::operand-cast_operand-requires t c =
+    let e = ap (λ x. size (expr_of x)) c.in-Cast.is
+    ∙ ap size (casts c.in-Cast.at c.in-Cast.name c.in-Cast.inner) in
+    (omega (arith, c.decreases, e), c.requires)
