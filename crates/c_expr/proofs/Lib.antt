@@ -4,9 +4,15 @@ pub mod BoundEnumerators
 pub mod BoundParameters
 pub mod Deriving
 pub mod Examples
+pub mod Expecting
 pub mod KnownTags
+pub mod Literals
 pub mod Looking
 pub mod Onward
+pub mod Parts
+pub mod Passing
+pub mod Size
 pub mod SpecifierLists
 pub mod Stands
 pub mod Steps
+pub mod Within

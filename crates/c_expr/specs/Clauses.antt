@@ -1,15 +1,22 @@
 -- What the functions of the program ensure: they answer what the walk does, unless memory runs out.
-use Rattle.std.specs.Prelude.{◌≡◌, ℤ, List, Option, Result, Ok, Err}
+use Rattle.std.specs.Prelude.{◌≡◌, ℤ, List, map, Option, Result, Ok, Err, Vec}
+use Rattle.std.specs.Global.{Global}
 use Rattle.c_types.specs.declared.shape.TypeId.{TypeId}
 use Rattle.c_types.specs.CType.{CType, type_of}
 use Rattle.c_types.specs.Making.{Grows}
 use Rattle.c_types.specs.Types.{Types}
 use Rattle.c_core.specs.declared.fault.TypeFault.{TypeFault}
 use Rattle.c_core.specs.declared.fault.TypeFault.TheVariants as fault
-use Rattle.c_core.specs.Ids.{IdIn}
+use Rattle.c_core.specs.declared.expression.CoreExpr.{CoreExpr}
+use Rattle.c_core.specs.Ids.{IdIn, CoreIn, CoresIn}
+use Rattle.c_core.specs.Tree.{Core, Cores, cores}
+use Rattle.c_core.specs.View.{core_of}
 use Rattle.c_scopes.specs.Clauses.{type_or_none, OptionIn}
 use Rattle.c_scopes.specs.Env.{Env, env_of, ScopesIn}
 use Rattle.c_scopes.specs.Scopes.{Scope}
+use Rattle.c_conversions.specs.declared.operand.Operand.{Operand}
+use Rattle.c_conversions.specs.Parts.{Part, part_of, PartIn}
+use Rattle.c_expr_rules.specs.declared.operand.Operands.{Operands}
 use Rattle.c_expr.specs.Answers.{Answer, Gives, Refuses}
 
 -- The scopes and the table have become what the rules see as this environment.
@@ -56,3 +63,31 @@ AnswersUnit = Answers (λ types done. done) (λ types done. Unit {0})
 
 abbrev pub AnswersNumber : Answer ℤ → Types → List Scope → Types → Result ℤ TypeFault → Type 0
 AnswersNumber = Answers (λ types n. n) (λ types n. Unit {0})
+
+-- ---- expressions
+
+abbrev pub AnswersPart : Answer Part → Types → List Scope → Types → Result Operand TypeFault → Type 0
+AnswersPart = Answers part_of PartIn
+
+abbrev pub AnswersCore : Answer Core → Types → List Scope → Types → Result CoreExpr TypeFault → Type 0
+AnswersCore = Answers core_of CoreIn
+
+-- arguments
+abbrev pub cores_of : Types → Vec CoreExpr Global → Cores
+cores_of types all = cores (map (core_of types) all.items)
+
+abbrev pub AllIn : Types → Vec CoreExpr Global → Type 0
+AllIn types all = CoresIn types all.items
+
+abbrev pub AnswersCores : Answer Cores → Types → List Scope → Types → Result (Vec CoreExpr Global) TypeFault → Type 0
+AnswersCores = Answers cores_of AllIn
+
+-- the two operands of an operator
+abbrev pub parts_of : Types → Operands → Part × Part
+parts_of types both = (part_of types both.left, part_of types both.right)
+
+abbrev pub PartsIn : Types → Operands → Type 0
+PartsIn types both = PartIn types both.left × PartIn types both.right
+
+abbrev pub AnswersParts : Answer (Part × Part) → Types → List Scope → Types → Result Operands TypeFault → Type 0
+AnswersParts = Answers parts_of PartsIn

@@ -6,8 +6,7 @@ use Rattle.std.specs.Prelude.{ℕ, ◌+◌, ℤ, Bool, true, false, ◌&&◌, Li
 use Rattle.critical_table.specs.declared.pos.Pos.{Pos}
 use Rattle.c_types.specs.CType.{CType, CTypes, Nil}
 use Rattle.c_core.specs.Constant.{constant_of}
-use Rattle.c_core.specs.Tree.{Cores, NoCore, MoreCores}
-use Rattle.c_syntax.specs.declared.operator.Access.TheVariants as access
+use Rattle.c_core.specs.Tree.{Core, Cores, NoCore, MoreCores}
 use Rattle.c_syntax.specs.Tree.{Expr, Exprs, Maybe, TypeName, Specifier, Specifiers, MemberDeclaration, Members}
 use Rattle.c_syntax.specs.Tree.{Declarators, Enumerators, Declarator, Parameter, Parameters}
 use Rattle.c_syntax.specs.Tree as tree
@@ -23,7 +22,6 @@ use Rattle.c_type_rules.specs.declared.context.Setting.TheVariants as setting
 use Rattle.c_operator_rules.specs.Assignment.{postfix_rule}
 use Rattle.c_expr_rules.specs.Calls.{call_rule}
 use Rattle.c_operator_rules.specs.Conditional.{conditional_rule}
-use Rattle.c_expr_rules.specs.Members.{dot_rule, arrow_rule}
 use Rattle.c_expr_rules.specs.Pointers.{index_rule}
 use Rattle.c_expr_rules.specs.Primary.{literal_rule, name_rule}
 use Rattle.c_expr.specs.Answers.{Answer, Gives, and_then, settle}
@@ -32,13 +30,15 @@ use Rattle.c_expr.specs.Declaring.{ToPointer, Derived, of_derivations, own_aroun
 use Rattle.c_expr.specs.Declaring.{and_type, plain_derived, array_derived, function_derived, is_first, TypedMembers}
 use Rattle.c_expr.specs.Declaring.{no_members, with_member, name_or_none, enumerator_bound}
 use Rattle.c_expr.specs.Environments.{scope_entered, scope_left}
-use Rattle.c_expr.specs.Operands.{constant_rule, units_among, callee_parameters, callee_varies, behind_first}
-use Rattle.c_expr.specs.Operands.{measure_rule, is_decrement}
+use Rattle.c_expr.specs.Operands.{constant_rule, units_among, callee_parameters, callee_varies, first_of}
+use Rattle.c_expr.specs.Operands.{behind_first, whole_usage, selection_rule, prefix_usage, prefixed_rule}
+use Rattle.c_expr.specs.Operands.{measure_rule, is_decrement, cast_usage, cast_to_rule, two_values, infix_usages}
+use Rattle.c_expr.specs.Operands.{choice_usages}
 use Rattle.c_expr.specs.Outlines.{Outline, Before, nothing, outline, of_specifiers, storage_on, qualifier_on}
 use Rattle.c_expr.specs.Outlines.{inline_on, basic_on, type_on, typedef_rule, bare_context}
 use Rattle.c_expr.specs.Shapes.{place_of, name_in, place_in, own_place, first_place, names_something, start}
 use Rattle.c_expr.specs.Tagging.{is_union, tagged_compound, tagged_enumeration, compound_with, enumeration_with}
-use Rattle.c_expr.specs.Uses.{as_used, as_value, as_test, as_argument, cast_to, prefixed, combined}
+use Rattle.c_expr.specs.Uses.{as_used, as_value, as_test, as_argument, Side, side_as, both, joined}
 
 unfoldable mutual
   -- ---- 6.5: what an expression is, before it becomes a value (6.3.2.1); `used` tells that its value is used
@@ -49,40 +49,45 @@ unfoldable mutual
   typed used (tree.Text at text) env = settle at env (literal_rule at text.wide (units_among text.pieces))
   typed used (tree.Paren inner) env = typed used inner env
   typed used (tree.Index at array index) env =
-      and_then (as_value (place_of array) (typed true array env)) (λ a env.
-      and_then (as_value (place_of index) (typed true index env)) (λ i env.
-      settle at env (index_rule env.structures at a i)))
+      and_then (both two_values (record { at = place_of array; answer = λ u env. typed u array env })
+      (record { at = place_of index; answer = λ u env. typed u index env }) env) (λ p env.
+      settle at env (index_rule env.structures at p.0 p.1))
   typed used (tree.Call at function arguments) env =
       and_then (as_used (place_of function) (typed true function env)) (λ f env.
       and_then (passed arguments (callee_parameters f) (callee_varies f) env) (λ all env.
       settle at env (call_rule env.structures at used f all)))
-  typed used (tree.Member at access.Dot whole x) env =
-      and_then (typed true whole env) (λ w env. settle at env (dot_rule env.structures at x w))
-  typed used (tree.Member at access.Arrow whole x) env =
-      and_then (as_used (place_of whole) (typed true whole env)) (λ w env.
-      settle at env (arrow_rule env.structures at x w))
+  typed used (tree.Member at access whole x) env =
+      and_then (side_as (whole_usage access) (record { at = place_of whole; answer = λ u env. typed u whole env }) env)
+      (λ w env. settle at env (selection_rule env.structures at access x w))
   typed used (tree.PostfixOp at operator operand) env =
       and_then (typed true operand env) (λ o env.
       settle at env (postfix_rule env.structures at (is_decrement operator) o))
   typed used (tree.PrefixOp at operator operand) env =
-      prefixed at operator (place_of operand) (typed true operand env)
+      and_then (side_as (prefix_usage operator)
+      (record { at = place_of operand; answer = λ u env. typed u operand env }) env) (λ o env.
+      settle at env (prefixed_rule env.structures at operator o))
   typed used (tree.MeasureOp at operator type) env =
       and_then (named at type env) (λ t env. settle at env (measure_rule env.structures at operator t))
-  typed used (tree.Cast at type operand) env = and_then (named at type env) (λ t env.
-      cast_to at t (place_of operand) (λ u. typed u operand env))
+  typed used (tree.Cast at type operand) env =
+      and_then (named at type env) (λ t env.
+      and_then (side_as (cast_usage t) (record { at = place_of operand; answer = λ u env. typed u operand env }) env)
+      (λ o env. settle at env (cast_to_rule at t o)))
   typed used (tree.InfixOp at operator left right) env =
-      combined used at operator (record { at = place_of left; answer = λ u env. typed u left env })
-      (record { at = place_of right; answer = λ u env. typed u right env }) env
+      and_then (both (infix_usages used operator)
+      (record { at = place_of left; answer = λ u env. typed u left env })
+      (record { at = place_of right; answer = λ u env. typed u right env }) env) (λ p env.
+      joined at (place_of right) operator p.0 p.1 env)
   typed used (tree.Cond at test then else) env =
       and_then (as_test (place_of test) (typed true test env)) (λ c env.
-      and_then (as_used (place_of then) (typed used then env)) (λ a env.
-      and_then (as_used (place_of else) (typed used else env)) (λ b env. settle at env (conditional_rule at c a b))))
+      and_then (both (choice_usages used) (record { at = place_of then; answer = λ u env. typed u then env })
+      (record { at = place_of else; answer = λ u env. typed u else env }) env) (λ p env.
+      settle at env (conditional_rule at c p.0 p.1)))
 
   -- arguments, where these parameters are left
   pub passed : Exprs → CTypes → Bool → Env → Answer Cores
   passed tree.NoExpr parameters variadic env = Gives NoCore env
   passed (tree.MoreExprs first rest) parameters variadic env =
-      and_then (as_argument parameters variadic (place_of first) (typed true first env)) (λ a env.
+      and_then (as_argument (first_of parameters) variadic (place_of first) (typed true first env)) (λ a env.
       and_then (passed rest (behind_first parameters) variadic env) (λ more env. Gives (MoreCores a more) env))
 
   -- ---- 6.7.7: the rules on the type that a type name names have the place of the operator around it
@@ -199,11 +204,19 @@ unfoldable mutual
       (derived (own_around declarator (no_ellipsis around)) declarator env)) (λ type env.
       parameter_of alone specifiers declarator number type env))
 
+-- an expression as an operand
+abbrev pub side_of : Expr → Side
+side_of e = record { at = place_of e; answer = λ used env. typed used e env }
+
 -- ---- what other crates ask
 
 -- an expression as a value that is needed
 abbrev pub valued : Expr → Env → Answer Part
 valued e env = as_value (place_of e) (typed true e env)
+
+-- its core
+abbrev pub value_of : Expr → Env → Answer Core
+value_of e env = and_then (valued e env) (λ v env. Gives v.core env)
 
 -- the type of specifiers
 abbrev pub specified : Context → Specifiers → Env → Answer CType

@@ -1,13 +1,22 @@
 //! Which type a specifier list, a declarator and a type name stand for, and what an expression is (6.5, 6.7).
 #![tactic(auto)]
 
+mod applying;
+mod argument;
+mod call;
 pub mod completing;
 pub mod derivations;
 pub mod enumerating;
+pub mod expression;
 pub mod naming;
+mod node;
+mod operators;
 pub mod outlines;
 pub mod parameters;
+mod primary;
 pub mod tagging;
+mod type_names;
+pub mod usage;
 pub mod words;
 
 pub use naming::{bind_name, new_compound, new_enumeration};
