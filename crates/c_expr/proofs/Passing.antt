@@ -5,7 +5,6 @@ use Rattle.std.specs.Prelude.{Option}
 use Rattle.std.proofs.Math.ListN.{drop_of_length-le}
 use Rattle.std.proofs.Math.Numerals.{add-one}
 use Rattle.std.proofs.Math.Seq.{drop-cons}
-use Rattle.critical_table.specs.declared.pos.Pos.{Pos}
 use Rattle.c_types.specs.CType.{CType, CTypes}
 use Rattle.c_types.specs.Making.{Grows}
 use Rattle.c_types.specs.Types.{Types}

@@ -1,30 +1,28 @@
 -- The goals of the walk over expressions: the parts of a node in order, and then the node by its rule.
-use Rattle.std.proofs.Common.{◌≡◌, ◌∙◌, ◌<◌, List, ap, sym, subst, map, length, arith, rules}
+use Rattle.std.proofs.Common.{◌≡◌, ◌∙◌, ◌<◌, ap, sym, subst, map, length, arith, rules}
 use Rattle.std.specs.Prelude.{Option, Ok}
 use Rattle.std.proofs.lemmas.Result.{err_from_is_err_and}
-use Rattle.c_types.specs.CType.{CType, type_of}
+use Rattle.c_types.specs.CType.{CType}
 use Rattle.c_types.specs.Structures.{structures_of}
-use Rattle.c_core.specs.declared.expression.CoreExpr.{CoreExpr}
-use Rattle.c_core.specs.Ids.{CoreIn, IdIn}
-use Rattle.c_core.specs.Tree.{Core, cores}
+use Rattle.c_core.specs.Ids.{CoreIn}
+use Rattle.c_core.specs.Tree.{Core}
 use Rattle.c_core.specs.View.{core_of}
-use Rattle.c_core.proofs.Kept.{core_kept, core_in_kept, id_in_kept, type_kept}
+use Rattle.c_core.proofs.Kept.{core_kept, core_in_kept, type_kept}
 use Rattle.c_syntax.specs.View.{expr_of, exprs, type_name_of}
 use Rattle.c_syntax.proofs.SpelledLists.{call_of, type_measure, casts}
-use Rattle.c_scopes.specs.Clauses.{BreaksAt, Rules, type_or_none}
+use Rattle.c_scopes.specs.Clauses.{Rules}
 use Rattle.c_scopes.specs.Env.{env_of}
 use Rattle.c_scopes.proofs.Growth.{scopes_stay_in}
 use Rattle.c_conversions.specs.Parts.{Part, part_of, PartIn}
 use Rattle.c_expr_rules.specs.Calls.{call_rule}
-use Rattle.c_expr_rules.specs.Primary.{literal_rule, name_rule}
 use Rattle.c_operator_rules.specs.Conditional.{conditional_rule}
 use Rattle.c_operator_rules.specs.Assignment.{postfix_rule}
-use Rattle.c_expr.specs.Clauses.{Answers, cores_of, AllIn, parts_of, PartsIn}
+use Rattle.c_expr.specs.Clauses.{Answers, cores_of}
 use Rattle.c_expr.specs.Answers.{settle}
 use Rattle.c_expr.specs.Operands.{argument_rule, argument_value_rule, callee_parameters, callee_varies}
 use Rattle.c_expr.specs.Operands.{cast_to_rule, first_of, types_behind}
 use Rattle.c_expr.specs.Shapes.{place_of}
-use Rattle.c_expr.specs.Typing.{typed, passed, side_of}
+use Rattle.c_expr.specs.Typing.{typed, side_of}
 use Rattle.c_expr.specs.Uses.{as_argument, as_test, as_unused, as_used, as_value, both, joined, side_as}
 use Rattle.c_expr.proofs.Parts.{part_kept, part_in_kept, option_kept, option_in_kept, both_given, side_named}
 use Rattle.c_expr.proofs.Parts.{both_named}
