@@ -1,5 +1,5 @@
 -- The parameter at a place: of a list of ids, and of the list of types that they stand for.
-use Rattle.std.proofs.Common.{◌≡◌, ◌∙◌, ◌<◌, ◌≤◌, length, ℕ, zero, suc, List, [], ◌∷◌, refl, ap, sym, arith, true, false, slice_index_or}
+use Rattle.std.proofs.Common.{◌≡◌, ◌∙◌, ◌<◌, ◌≤◌, ℕ, zero, suc, List, [], ◌∷◌, refl, ap, sym, arith, false}
 use Rattle.std.specs.Prelude.{Option, Some, None, option_map, IfSome}
 use Rattle.std.specs.List.{All, slice_get}
 use Rattle.std.proofs.lemmas.Option.{slice_get_within, get_or_from_slice_get}

@@ -1,5 +1,5 @@
 -- A literal with very many units has too many bytes.
-use Rattle.std.proofs.Common.{◌≡◌, ◌≤◌, ◌*◌, ◌+◌, ◌^◌, ◌∷◌, [], ℕ, Bool, true, false, ap, arith}
+use Rattle.std.proofs.Common.{◌≡◌, ◌≤◌, ◌*◌, ◌+◌, ◌∷◌, [], ℕ, Bool, true, false, ap, arith}
 use Rattle.std.specs.Prelude.{nat_le}
 use Rattle.std.proofs.lemmas.Bool.Decides.{nat_tests}
 use Rattle.critical_table.specs.declared.pos.Pos.{Pos}

@@ -9,7 +9,7 @@ use Rattle.c_scopes.specs.Clauses.{OptionIn, type_or_none}
 use Rattle.c_scopes.specs.Env.{Env, env_of}
 use Rattle.c_scopes.specs.Scopes.{Scope}
 use Rattle.c_core.specs.declared.expression.CoreExpr.{CoreExpr}
-use Rattle.c_core.specs.Ids.{CoreIn, CoresIn}
+use Rattle.c_core.specs.Ids.{CoresIn}
 use Rattle.c_core.specs.View.{core_of}
 use Rattle.c_core.proofs.Kept.{core_kept, core_in_kept, id_in_kept, type_kept}
 use Rattle.c_conversions.specs.declared.operand.Operand.{Operand}

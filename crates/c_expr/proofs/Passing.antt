@@ -5,7 +5,6 @@ use Rattle.std.specs.Prelude.{Option}
 use Rattle.std.proofs.Math.ListN.{drop_of_length-le}
 use Rattle.std.proofs.Math.Numerals.{add-one}
 use Rattle.std.proofs.Math.Seq.{drop-cons}
-use Rattle.critical_table.specs.declared.pos.Pos.{Pos}
 use Rattle.c_types.specs.CType.{CType, CTypes}
 use Rattle.c_types.specs.Making.{Grows}
 use Rattle.c_types.specs.Types.{Types}
@@ -230,3 +229,10 @@ passing_end whole parameters variadic list i old types scopes done h before =
     passing_all whole parameters variadic i old types scopes done
     (passing_as whole parameters variadic (exprs (map expr_of (drop i list))) (exprs []) i old types scopes done
     (ap (λ xs. exprs (map expr_of xs)) (drop_of_length-le list h)) before)
+
+pub passing_items : (whole : Answer Cores) (parameters : CTypes) (variadic : Bool) (left : Exprs) (count : ℕ)
+    (old types : Types) (scopes : List Scope) (items all : List CoreExpr) → items ≡ all
+    → Passing whole parameters variadic left count old scopes types all
+    → Passing whole parameters variadic left count old scopes types items
+passing_items whole parameters variadic left count old types scopes items all e before =
+    subst (λ (xs : List CoreExpr). Passing whole parameters variadic left count old scopes types xs) (sym e) before

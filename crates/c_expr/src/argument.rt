@@ -1,6 +1,7 @@
 //! Arguments by the function that is called (6.5.2.2).
 
 ghost use Rattle.std.specs.Prelude.{◌≡◌};
+ghost use Rattle.std.specs.List.{slice_get};
 ghost use Rattle.c_types.specs.Structures.{structures_of};
 ghost use Rattle.c_core.specs.Ids.{CoreIn};
 ghost use Rattle.c_core.specs.View.{core_of};
@@ -25,6 +26,13 @@ pub(crate) struct Expected {
     pub(crate) variadic: bool,
 }
 
+// The parameter at that place, if there is one.
+fn nth(parameters: &[TypeId], index: usize) -> Option<TypeId>
+    ensures { result ≡ slice_get parameters.now index }
+{
+    parameters.get(index).copied()
+}
+
 /// What the argument at that place, counted from 0, is for.
 pub(crate) fn expected_at(types: &TypeTable, function: &Operand, index: usize) -> Expected
     requires { PartIn types.now function.now }
@@ -40,8 +48,9 @@ pub(crate) fn expected_at(types: &TypeTable, function: &Operand, index: usize) -
             variadic: false,
         };
     }
+    let parameter = nth(types.parameters(of), index);
     Expected {
-        parameter: types.parameters(of).get(index).copied(),
+        parameter,
         variadic: types.is_variadic(of),
     }
 }

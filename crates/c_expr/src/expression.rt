@@ -25,6 +25,7 @@ use c_types::TypeTable;
 
 /// An expression before it is a value (6.5). The flag tells that its value is used.
 #[cycle(typing)]
+#[tactic(auto, unfolding(crate::specs::Typing::typed))]
 pub(crate) fn operand(
     scopes: &mut Scopes,
     types: &mut TypeTable,

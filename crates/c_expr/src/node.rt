@@ -42,8 +42,8 @@ fn two_operands(
     sides: Sides,
 ) -> Result<Operands, TypeFault>
     requires { ScopesIn types.old scopes.old }
-    ensures { AnswersParts (spec.both usages (side_of (expr_of sides.entry.left.now)) (side_of (expr_of sides.entry.right.now))
-        (env_of scopes.old types.old)) types.old scopes.new types.new result }
+    ensures { AnswersParts (spec.both usages (side_of (expr_of sides.entry.left.now))
+        (side_of (expr_of sides.entry.right.now)) (env_of scopes.old types.old)) types.old scopes.new types.new result }
 {
     let left = side_operand(scopes, types, usages.left, sides.left)?;
     let right = side_operand(scopes, types, usages.right, sides.right)?;
@@ -177,8 +177,8 @@ pub(crate) fn conditional_operand(
     sides: Sides,
 ) -> Result<Operand, TypeFault>
     requires { ScopesIn types.old scopes.old }
-    ensures { AnswersPart (typed node.entry.0 (tree.Cond node.entry.1 (expr_of node.entry.2.now) (expr_of sides.entry.left.now)
-        (expr_of sides.entry.right.now)) (env_of scopes.old types.old)) types.old scopes.new types.new result }
+    ensures { AnswersPart (typed node.entry.0 (tree.Cond node.entry.1 (expr_of node.entry.2.now)
+        (expr_of sides.entry.left.now) (expr_of sides.entry.right.now)) (env_of scopes.old types.old)) types.old scopes.new types.new result }
 {
     let test = test_core(scopes, types, node.2)?;
     let both = two_operands(scopes, types, choice_usages(node.0), sides)?;

@@ -1,35 +1,33 @@
 -- The goals of the walk over expressions: the parts of a node in order, and then the node by its rule.
-use Rattle.std.proofs.Common.{◌≡◌, ◌∙◌, ◌<◌, List, ap, sym, subst, map, length, arith}
+use Rattle.std.proofs.Common.{◌≡◌, ◌∙◌, ◌<◌, ap, sym, subst, map, length, arith, rules}
 use Rattle.std.specs.Prelude.{Option, Ok}
 use Rattle.std.proofs.lemmas.Result.{err_from_is_err_and}
-use Rattle.c_types.specs.CType.{CType, type_of}
+use Rattle.c_types.specs.CType.{CType}
 use Rattle.c_types.specs.Structures.{structures_of}
-use Rattle.c_core.specs.declared.expression.CoreExpr.{CoreExpr}
-use Rattle.c_core.specs.Ids.{CoreIn, IdIn}
-use Rattle.c_core.specs.Tree.{Core, cores}
+use Rattle.c_core.specs.Ids.{CoreIn}
+use Rattle.c_core.specs.Tree.{Core}
 use Rattle.c_core.specs.View.{core_of}
-use Rattle.c_core.proofs.Kept.{core_kept, core_in_kept, id_in_kept, type_kept}
+use Rattle.c_core.proofs.Kept.{core_kept, core_in_kept, type_kept}
 use Rattle.c_syntax.specs.View.{expr_of, exprs, type_name_of}
 use Rattle.c_syntax.proofs.SpelledLists.{call_of, type_measure, casts}
-use Rattle.c_scopes.specs.Clauses.{BreaksAt, Rules, type_or_none}
+use Rattle.c_scopes.specs.Clauses.{Rules}
 use Rattle.c_scopes.specs.Env.{env_of}
 use Rattle.c_scopes.proofs.Growth.{scopes_stay_in}
 use Rattle.c_conversions.specs.Parts.{Part, part_of, PartIn}
 use Rattle.c_expr_rules.specs.Calls.{call_rule}
-use Rattle.c_expr_rules.specs.Primary.{literal_rule, name_rule}
 use Rattle.c_operator_rules.specs.Conditional.{conditional_rule}
 use Rattle.c_operator_rules.specs.Assignment.{postfix_rule}
-use Rattle.c_expr.specs.Clauses.{Answers, cores_of, AllIn, parts_of, PartsIn}
+use Rattle.c_expr.specs.Clauses.{Answers, cores_of}
 use Rattle.c_expr.specs.Answers.{settle}
 use Rattle.c_expr.specs.Operands.{argument_rule, argument_value_rule, callee_parameters, callee_varies}
 use Rattle.c_expr.specs.Operands.{cast_to_rule, first_of, types_behind}
 use Rattle.c_expr.specs.Shapes.{place_of}
-use Rattle.c_expr.specs.Typing.{typed, passed, side_of}
+use Rattle.c_expr.specs.Typing.{typed, side_of}
 use Rattle.c_expr.specs.Uses.{as_argument, as_test, as_unused, as_used, as_value, both, joined, side_as}
 use Rattle.c_expr.proofs.Parts.{part_kept, part_in_kept, option_kept, option_in_kept, both_given, side_named}
 use Rattle.c_expr.proofs.Parts.{both_named}
-use Rattle.c_expr.proofs.Passing.{Passing, passing_none, passing_next, passing_stopped, passing_end}
-use Rattle.c_expr.proofs.Size.{size, exprs_size}
+use Rattle.c_expr.proofs.Passing.{passing_items, passing_none, passing_next, passing_stopped, passing_end}
+use Rattle.c_expr.proofs.Size.{size, exprs_size, type_name_size}
 use Rattle.c_expr.proofs.Steps.{answers_as, breaks_refused_at, given_as, refused_as, refused_later, refused_then, settled, settled_at}
 use Rattle.c_expr.proofs.Steps.{then_given, then_part}
 use Rattle.c_expr.proofs.Within.{size_within}
@@ -149,81 +147,26 @@ expression::operand-returns-in-Text t c =
     (ap (λ x. typed c.args.used (expr_of x) (env_of c.args.scopes.now c.args.types.now)) c.in-Text.is)
     (settled part_of PartIn _ _ _ _ _ _ c.requires c.string_literal.ensures)
 
-pub expression::operand-returns-in-Paren : goal.expression::operand-returns-in-Paren
-unfolding typed
-expression::operand-returns-in-Paren t c =
-    answers_as part_of PartIn _ _ c.args.types.now c.operand.new.types c.operand.new.scopes c.operand.result
-    (ap (λ x. typed c.args.used (expr_of x) (env_of c.args.scopes.now c.args.types.now)) c.in-Paren.is)
-    c.operand.ensures
-
-pub expression::operand-returns-in-Index : goal.expression::operand-returns-in-Index
-unfolding typed
-expression::operand-returns-in-Index t c =
-    answers_as part_of PartIn _ _ c.args.types.now c.index_operand.new.types c.index_operand.new.scopes c.index_operand.result
-    (ap (λ x. typed c.args.used (expr_of x) (env_of c.args.scopes.now c.args.types.now)) c.in-Index.is)
-    c.index_operand.ensures
-
 pub expression::operand-returns-in-Call : goal.expression::operand-returns-in-Call
 unfolding typed
 expression::operand-returns-in-Call t c =
-    answers_as part_of PartIn _ _ c.args.types.now c.call_operand.new.types c.call_operand.new.scopes c.call_operand.result
-    (ap (λ x. typed c.args.used (expr_of x) (env_of c.args.scopes.now c.args.types.now)) c.in-Call.is
-    ∙ ap (λ x. typed c.args.used x (env_of c.args.scopes.now c.args.types.now))
-    (call_of c.in-Call.at c.in-Call.function c.in-Call.arguments))
-    c.call_operand.ensures
-
-pub expression::operand-returns-in-Member : goal.expression::operand-returns-in-Member
-unfolding typed
-expression::operand-returns-in-Member t c =
-    answers_as part_of PartIn _ _ c.args.types.now c.member_operand.new.types c.member_operand.new.scopes c.member_operand.result
-    (ap (λ x. typed c.args.used (expr_of x) (env_of c.args.scopes.now c.args.types.now)) c.in-Member.is)
-    c.member_operand.ensures
-
-pub expression::operand-returns-in-Postfix : goal.expression::operand-returns-in-Postfix
-unfolding typed
-expression::operand-returns-in-Postfix t c =
-    answers_as part_of PartIn _ _ c.args.types.now c.postfix_operand.new.types c.postfix_operand.new.scopes c.postfix_operand.result
-    (ap (λ x. typed c.args.used (expr_of x) (env_of c.args.scopes.now c.args.types.now)) c.in-Postfix.is)
-    c.postfix_operand.ensures
-
-pub expression::operand-returns-in-Prefix : goal.expression::operand-returns-in-Prefix
-unfolding typed
-expression::operand-returns-in-Prefix t c =
-    answers_as part_of PartIn _ _ c.args.types.now c.prefix_operand.new.types c.prefix_operand.new.scopes c.prefix_operand.result
-    (ap (λ x. typed c.args.used (expr_of x) (env_of c.args.scopes.now c.args.types.now)) c.in-Prefix.is)
-    c.prefix_operand.ensures
+    let e = c.in-Call.is in
+    let tree = ap expr_of c.in-Call.is ∙ call_of c.in-Call.at c.in-Call.function c.in-Call.arguments in
+    rw tree (search rules)
 
 pub expression::operand-returns-in-Measure : goal.expression::operand-returns-in-Measure
 unfolding typed
 expression::operand-returns-in-Measure t c =
-    answers_as part_of PartIn _ _ c.args.types.now c.measure_operand.new.types c.measure_operand.new.scopes c.measure_operand.result
-    (ap (λ x. typed c.args.used (expr_of x) (env_of c.args.scopes.now c.args.types.now)) c.in-Measure.is
-    ∙ ap (λ x. typed c.args.used x (env_of c.args.scopes.now c.args.types.now))
-    (type_measure c.in-Measure.at c.in-Measure.operator c.in-Measure.name))
-    c.measure_operand.ensures
+    let e = c.in-Measure.is in
+    let tree = ap expr_of c.in-Measure.is ∙ type_measure c.in-Measure.at c.in-Measure.operator c.in-Measure.name in
+    rw tree (search rules)
 
 pub expression::operand-returns-in-Cast : goal.expression::operand-returns-in-Cast
 unfolding typed
 expression::operand-returns-in-Cast t c =
-    answers_as part_of PartIn _ _ c.args.types.now c.cast_operand.new.types c.cast_operand.new.scopes c.cast_operand.result
-    (ap (λ x. typed c.args.used (expr_of x) (env_of c.args.scopes.now c.args.types.now)) c.in-Cast.is
-    ∙ ap (λ x. typed c.args.used x (env_of c.args.scopes.now c.args.types.now))
-    (casts c.in-Cast.at c.in-Cast.name c.in-Cast.inner))
-    c.cast_operand.ensures
-
-pub expression::operand-returns-in-Infix : goal.expression::operand-returns-in-Infix
-unfolding typed
-expression::operand-returns-in-Infix t c =
-    answers_as part_of PartIn _ _ c.args.types.now c.infix_operand.new.types c.infix_operand.new.scopes c.infix_operand.result
-    (ap (λ x. typed c.args.used (expr_of x) (env_of c.args.scopes.now c.args.types.now)) c.in-Infix.is)
-    c.infix_operand.ensures
-
-pub expression::operand-returns-in-Cond : goal.expression::operand-returns-in-Cond
-unfolding typed
-expression::operand-returns-in-Cond t c =
-    answers_as part_of PartIn _ _ c.args.types.now c.conditional_operand.new.types c.conditional_operand.new.scopes c.conditional_operand.result
-    (ap (λ x. typed c.args.used (expr_of x) (env_of c.args.scopes.now c.args.types.now)) c.in-Cond.is)
-    c.conditional_operand.ensures
+    let e = c.in-Cast.is in
+    let tree = ap expr_of c.in-Cast.is ∙ casts c.in-Cast.at c.in-Cast.name c.in-Cast.inner in
+    rw tree (search rules)
 
 pub node::two_operands-returns : goal.node::two_operands-returns
 unfolding both
@@ -428,7 +371,7 @@ call::argument-returns-in_err-value t c =
 
 pub call::arguments-loop-index-init : goal.call::arguments-loop-index-init
 call::arguments-loop-index-init t c =
-    passing_none _ _ _ _ _ c.requires.here _ c.new-made.ensures
+    passing_none _ _ _ _ _ c.requires.here _ c.new-made.ensures.items
 
 pub call::call_operand-returns : goal.call::call_operand-returns
 unfolding typed
@@ -464,12 +407,12 @@ call::arguments-expected_at-place-requires t c =
 
 pub call::arguments-argument-requires : goal.call::arguments-argument-requires
 call::arguments-argument-requires t c =
-    let x = c.loop-index-item.result in
+    let x = c.index-list-index.result in
     let all = c.args.list.now in
     let within : c.loop-index.index < length all = omega arith in
     let less : size (expr_of x) < exprs_size (exprs (map expr_of all)) =
-        subst (λ y. size (expr_of y) < exprs_size (exprs (map expr_of all))) (sym c.loop-index-item.is)
-        (size_within all c.loop-index.index x within) in
+    subst (λ y. size (expr_of y) < exprs_size (exprs (map expr_of all))) (sym c.index-list-index.is)
+    (size_within all c.loop-index.index x within) in
     (omega (arith, c.decreases, less), (c.loop-index.invariant.here, c.expected_at-place.ensures.is_in))
 
 pub call::arguments-loop-index-preserved : goal.call::arguments-loop-index-preserved
@@ -481,9 +424,9 @@ call::arguments-loop-index-preserved t c =
     let kept = part_kept old mid before.grown function c.requires.function in
     let place = c.expected_at-place.ensures in
     let within : c.loop-index.index < length c.args.list.now = omega arith in
-    subst (λ (items : List CoreExpr). Passing _ _ _ _ _ _ _ _ items) (sym c.in_ok-push.ensures)
-    (passing_next _ _ _ c.args.list.now c.loop-index.index c.loop-index-item.result old mid c.loop-index.scopes _
-    _ _ within c.loop-index-item.is before
+    passing_items _ _ _ _ _ _ _ _ _ _ c.in_ok-push.ensures.items
+    (passing_next _ _ _ c.args.list.now c.loop-index.index c.index-list-index.result old mid c.loop-index.scopes _
+    _ _ within c.index-list-index.is before
     (place.parameter
     ∙ ap (λ (p : Part). first_of (types_behind c.loop-index.index (callee_parameters p))) kept)
     (place.variadic ∙ ap callee_varies kept) c.argument.new.types c.argument.new.scopes c.in_ok-core.core
@@ -500,8 +443,8 @@ call::arguments-returns-in_err-core t c =
     let place = c.expected_at-place.ensures in
     let within : c.loop-index.index < length c.args.list.now = omega arith in
     rw (p.1, p.2)
-    (passing_stopped _ _ _ c.args.list.now c.loop-index.index c.loop-index-item.result old mid c.loop-index.scopes _
-    _ _ within c.loop-index-item.is before
+    (passing_stopped _ _ _ c.args.list.now c.loop-index.index c.index-list-index.result old mid c.loop-index.scopes _
+    _ _ within c.index-list-index.is before
     (place.parameter
     ∙ ap (λ (p : Part). first_of (types_behind c.loop-index.index (callee_parameters p))) kept)
     (place.variadic ∙ ap callee_varies kept) _ c.in_err-core.ensures)
@@ -525,16 +468,24 @@ pub expression::operand-call_operand-requires : goal.expression::operand-call_op
 expression::operand-call_operand-requires t c =
     let e = ap (λ x. size (expr_of x)) c.in-Call.is
     ∙ ap size (call_of c.in-Call.at c.in-Call.function c.in-Call.arguments) in
-    (omega (arith, c.decreases, e), c.requires)
+    let f : size (expr_of c.deref-in-Call.result.now) ≡ size (expr_of c.in-Call.function.value) = cc in
+    let a : exprs_size (exprs (map expr_of c.as_slice.result.now))
+    ≡ exprs_size (exprs (map expr_of c.in-Call.arguments.items)) = cc in
+    (omega (arith, c.decreases, e, f, a), c.requires)
 
 pub expression::operand-measure_operand-requires : goal.expression::operand-measure_operand-requires
 expression::operand-measure_operand-requires t c =
     let e = ap (λ x. size (expr_of x)) c.in-Measure.is
     ∙ ap size (type_measure c.in-Measure.at c.in-Measure.operator c.in-Measure.name) in
-    (omega (arith, c.decreases, e), c.requires)
+    let f : type_name_size (type_name_of c.deref-in-Measure.result.now)
+    ≡ type_name_size (type_name_of c.in-Measure.name.value) = cc in
+    (omega (arith, c.decreases, e, f), c.requires)
 
 pub expression::operand-cast_operand-requires : goal.expression::operand-cast_operand-requires
 expression::operand-cast_operand-requires t c =
     let e = ap (λ x. size (expr_of x)) c.in-Cast.is
     ∙ ap size (casts c.in-Cast.at c.in-Cast.name c.in-Cast.inner) in
-    (omega (arith, c.decreases, e), c.requires)
+    let f : type_name_size (type_name_of c.deref-in-Cast.result.now)
+    ≡ type_name_size (type_name_of c.in-Cast.name.value) = cc in
+    let g : size (expr_of c.deref-in-Cast-2.result.now) ≡ size (expr_of c.in-Cast.inner.value) = cc in
+    (omega (arith, c.decreases, e, f, g), c.requires)

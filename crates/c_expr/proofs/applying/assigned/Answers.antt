@@ -6,7 +6,6 @@ use Rattle.c_types.specs.Structures.{structures_of}
 use Rattle.c_core.specs.Ids.{CoreIn}
 use Rattle.c_core.specs.View.{core_of}
 use Rattle.c_scopes.specs.Clauses.{Rules}
-use Rattle.c_scopes.specs.Env.{env_of}
 use Rattle.c_conversions.specs.Parts.{Part, part_of, PartIn}
 use Rattle.c_operator_rules.specs.Assignment.{assigned_rule, assign_rule}
 use Rattle.c_expr.specs.Uses.{joined}
