@@ -1,2 +1,0 @@
--- What the rows answer by their library.
-pub mod NumberingLaws
