@@ -10,9 +10,6 @@ pub mod Literals
 pub mod Looking
 pub mod Onward
 pub mod Parts
-pub mod Passing
-pub mod Size
 pub mod SpecifierLists
 pub mod Stands
 pub mod Steps
-pub mod Within

@@ -31,7 +31,7 @@ use c_types::{TypeId, TypeTable};
 use critical_table::{Name, Pos};
 
 /// A member of a structure or union, by `.` or `->` at that place (6.5.2.3).
-pub(crate) fn select(
+pub fn select(
     types: &mut TypeTable,
     operator: (Pos, Access),
     name: &Name,
@@ -49,7 +49,7 @@ pub(crate) fn select(
 }
 
 /// An operator before its operand (6.5.3).
-pub(crate) fn prefixed(
+pub fn prefixed(
     types: &mut TypeTable,
     at: Pos,
     operator: Prefix,
@@ -73,7 +73,7 @@ pub(crate) fn prefixed(
 }
 
 /// `sizeof` or `_Alignof` of a type (6.5.3.4).
-pub(crate) fn measure(
+pub fn measure(
     types: &TypeTable,
     at: Pos,
     operator: Measure,
@@ -90,7 +90,7 @@ pub(crate) fn measure(
 }
 
 /// A cast of an operand, whose value is used where the type is not `void` (6.5.4).
-pub(crate) fn cast_to(
+pub fn cast_to(
     types: &mut TypeTable,
     at: Pos,
     to: TypeId,
@@ -109,9 +109,9 @@ pub(crate) fn cast_to(
 
 /// The places of an operator and of its right operand.
 #[derive(Clone, Copy)]
-pub(crate) struct Places {
-    pub(crate) at: Pos,
-    pub(crate) right: Pos,
+pub struct Places {
+    pub at: Pos,
+    pub right: Pos,
 }
 
 // `=` (6.5.16.1)
@@ -127,7 +127,7 @@ fn assigned(types: &mut TypeTable, places: Places, operands: Operands) -> Result
 }
 
 /// Two operands and the operator between them (6.5.5 to 6.5.14, 6.5.16, 6.5.17).
-pub(crate) fn joined(
+pub fn joined(
     types: &mut TypeTable,
     places: Places,
     operator: Infix,

@@ -21,9 +21,9 @@ use critical_table::Pos;
 /// What an argument is for: the parameter at its place, if there is one, and whether the function takes more arguments
 /// than it has parameters.
 #[derive(Clone, Copy, Debug, PartialEq, Eq)]
-pub(crate) struct Expected {
-    pub(crate) parameter: Option<TypeId>,
-    pub(crate) variadic: bool,
+pub struct Expected {
+    pub parameter: Option<TypeId>,
+    pub variadic: bool,
 }
 
 // The parameter at that place, if there is one.
@@ -34,7 +34,7 @@ fn nth(parameters: &[TypeId], index: usize) -> Option<TypeId>
 }
 
 /// What the argument at that place, counted from 0, is for.
-pub(crate) fn expected_at(types: &TypeTable, function: &Operand, index: usize) -> Expected
+pub fn expected_at(types: &TypeTable, function: &Operand, index: usize) -> Expected
     requires { PartIn types.now function.now }
     ensures is_in { OptionIn types.now result.parameter }
     ensures parameter { type_or_none types.now result.parameter
@@ -56,7 +56,7 @@ pub(crate) fn expected_at(types: &TypeTable, function: &Operand, index: usize) -
 }
 
 /// An argument at that place as a value.
-pub(crate) fn argument_value(
+pub fn argument_value(
     types: &mut TypeTable,
     at: Pos,
     parameter: Option<TypeId>,
@@ -73,7 +73,7 @@ pub(crate) fn argument_value(
 }
 
 /// A value at that place as an argument.
-pub(crate) fn argument_core(
+pub fn argument_core(
     types: &mut TypeTable,
     at: Pos,
     place: Expected,

@@ -1,21 +1,17 @@
 //! Which type a specifier list, a declarator and a type name stand for, and what an expression is (6.5, 6.7).
 #![tactic(auto)]
 
-mod applying;
-mod argument;
-mod call;
+pub mod applying;
+pub mod argument;
 pub mod completing;
 pub mod derivations;
 pub mod enumerating;
-pub mod expression;
 pub mod naming;
-mod node;
-mod operators;
+pub mod operators;
 pub mod outlines;
 pub mod parameters;
-mod primary;
+pub mod primary;
 pub mod tagging;
-mod type_names;
 pub mod usage;
 pub mod words;
 

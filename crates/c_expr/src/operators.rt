@@ -9,7 +9,7 @@ use c_core::{Comparison as Relation, Operator};
 use c_syntax::{Arithmetic, Comparison, Expr, Postfix};
 use critical_table::Pos;
 
-pub(crate) fn operator_of(operator: Arithmetic) -> Operator
+pub fn operator_of(operator: Arithmetic) -> Operator
     ensures { result ≡ rule.operator_of operator }
 {
     match operator {
@@ -26,7 +26,7 @@ pub(crate) fn operator_of(operator: Arithmetic) -> Operator
     }
 }
 
-pub(crate) fn comparison_of(comparison: Comparison) -> Relation
+pub fn comparison_of(comparison: Comparison) -> Relation
     ensures { result ≡ rule.comparison_of comparison }
 {
     match comparison {
@@ -39,7 +39,7 @@ pub(crate) fn comparison_of(comparison: Comparison) -> Relation
     }
 }
 
-pub(crate) fn is_decrement(operator: Postfix) -> bool
+pub fn is_decrement(operator: Postfix) -> bool
     ensures { result ≡ rule.is_decrement operator }
 {
     match operator {
@@ -49,7 +49,7 @@ pub(crate) fn is_decrement(operator: Postfix) -> bool
 }
 
 /// The place of an expression: the first byte of its operator. Parentheses have no place.
-pub(crate) fn place_of(expr: &Expr) -> Pos
+pub fn place_of(expr: &Expr) -> Pos
     ensures { result ≡ spec.place_of (expr_of expr.now) }
 {
     match expr {

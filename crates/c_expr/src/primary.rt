@@ -17,7 +17,7 @@ use c_types::TypeTable;
 use critical_table::{Name, Pos};
 
 /// An integer or character constant (6.4.4).
-pub(crate) fn constant(types: &TypeTable, at: Pos, constant: Constant) -> Result<Operand, TypeFault>
+pub fn constant(types: &TypeTable, at: Pos, constant: Constant) -> Result<Operand, TypeFault>
     ensures { Rules part_of PartIn (rule.constant_rule at constant) at types.now types.now result }
 {
     match constant {
@@ -27,7 +27,7 @@ pub(crate) fn constant(types: &TypeTable, at: Pos, constant: Constant) -> Result
 }
 
 /// A name (6.5.1p2).
-pub(crate) fn identifier(
+pub fn identifier(
     scopes: &Scopes,
     types: &mut TypeTable,
     at: Pos,
@@ -60,11 +60,7 @@ fn units_among(text: &Literals) -> Option<u32>
 }
 
 /// Adjacent string literals (6.4.5p6).
-pub(crate) fn string_literal(
-    types: &mut TypeTable,
-    at: Pos,
-    text: &Literals,
-) -> Result<Operand, TypeFault>
+pub fn string_literal(types: &mut TypeTable, at: Pos, text: &Literals) -> Result<Operand, TypeFault>
     ensures { Rules part_of PartIn (primary.literal_rule at text.now.wide (rule.units_among text.now.units.items)) at
         types.old types.new result }
 {

@@ -30,7 +30,7 @@ pub struct Usages {
 }
 
 /// What a structure or union, or a pointer to one, is to `.` and `->` (6.5.2.3).
-pub(crate) fn whole_usage(access: Access) -> Usage
+pub fn whole_usage(access: Access) -> Usage
     ensures { result ≡ rule.whole_usage access }
 {
     match access {
@@ -40,7 +40,7 @@ pub(crate) fn whole_usage(access: Access) -> Usage
 }
 
 /// What an operand is to an operator before it (6.5.3).
-pub(crate) fn prefix_usage(operator: Prefix) -> Usage
+pub fn prefix_usage(operator: Prefix) -> Usage
     ensures { result ≡ rule.prefix_usage operator }
 {
     match operator {
@@ -57,7 +57,7 @@ pub(crate) fn prefix_usage(operator: Prefix) -> Usage
 }
 
 /// What the operand of a cast is to it (6.5.4).
-pub(crate) fn cast_usage(types: &TypeTable, to: TypeId) -> Usage
+pub fn cast_usage(types: &TypeTable, to: TypeId) -> Usage
     requires { to.0 < count_of types.now }
     ensures { result ≡ rule.cast_usage (type_of types.now to) }
 {
@@ -69,7 +69,7 @@ pub(crate) fn cast_usage(types: &TypeTable, to: TypeId) -> Usage
 }
 
 /// Two operands whose values are needed.
-pub(crate) fn two_values() -> Usages
+pub fn two_values() -> Usages
     ensures { result ≡ rule.two_values }
 {
     Usages {
@@ -79,7 +79,7 @@ pub(crate) fn two_values() -> Usages
 }
 
 /// What two operands are to the operator between them; the flag tells that the value of the whole is used.
-pub(crate) fn infix_usages(used: bool, operator: Infix) -> Usages
+pub fn infix_usages(used: bool, operator: Infix) -> Usages
     ensures { result ≡ rule.infix_usages used operator }
 {
     let (left, right) = match operator {
@@ -95,7 +95,7 @@ pub(crate) fn infix_usages(used: bool, operator: Infix) -> Usages
 }
 
 /// What the two results are to a conditional, by whether its own value is used (6.5.15).
-pub(crate) fn choice_usages(used: bool) -> Usages
+pub fn choice_usages(used: bool) -> Usages
     ensures { result ≡ rule.choice_usages used }
 {
     Usages {
