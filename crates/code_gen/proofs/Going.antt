@@ -116,6 +116,11 @@ module _ (e : Environment) (code : Contents) where
       reaches_from p (to v s) (next v s) Last then d.comes (go v s d.fit)
   does_then p (Stops outcome s) next to fits Last then d go = record { arrives = d.comes }
 
+  pub does_reaches : {A : Type 0} (p : Place) (x : Evaluation A) (to : A → State → Place) (fits : A → Type 0)
+      → Does e code p x to fits → Reaches e code p x fits (λ v fit s. to v s)
+  does_reaches p (Gives v s) to fits d = record { arrives = (d.fit, d.comes) }
+  does_reaches p (Stops outcome s) to fits d = record { arrives = d.comes }
+
   -- and farther from where the value leads
   pub reaches_on : {A : Type 0} (p : Place) (x : Evaluation A) (Left : A → Type 0)
       (to : (v : A) → Left v → State → Place) (Last : A → Type 0) (then : (v : A) → Last v → State → Place)

@@ -30,6 +30,7 @@ pub mod StatementLengths
 pub mod FullExpressions
 pub mod PlainStatements
 pub mod PlainActions
+pub mod PlainStores
 pub mod PlainBlocks
 pub mod PlainStatementRuns
 pub mod Sizes

@@ -1,4 +1,4 @@
--- The machine does what statements mean: blocks, expression statements, `if` and jumps.
+-- The machine does what statements mean: blocks, initializers, expression statements, `if` and jumps.
 use Rattle.std.proofs.Common.{◌≡◌, ◌∙◌, ℕ, ◌+◌, Bool, List, [], ◌∷◌, ◌++◌, refl, ap, sym, subst, arith, length}
 use Rattle.std.proofs.lemmas.List.{length-append}
 use Rattle.critical_table.specs.declared.pos.Pos.{Pos}
@@ -25,6 +25,7 @@ use Rattle.code_gen.proofs.Lengths.{on_long}
 use Rattle.code_gen.proofs.PlainActions as actions
 use Rattle.code_gen.proofs.PlainBlocks as blocks
 use Rattle.code_gen.proofs.PlainPieces as pieces_of
+use Rattle.code_gen.proofs.PlainStores as stores
 use Rattle.code_gen.proofs.PlainStretches as stretch
 use Rattle.code_gen.proofs.StatementLengths.{full_long, statement_long, items_long, makes_long, items_size_at}
 use Rattle.code_gen.proofs.StatementLengths.{left_long}
@@ -80,10 +81,12 @@ module _ (program : Program) (table : List Through) (call : Call) where
         items_runs (blocks.block_of it names flow around inside locals made answered are) (names_in_block locals names)
         flow inner (blocks.inside_block it names flow around inside locals made answered are) items t.1 plain (at + n)
         text (stand_back it.code it.function at n a b long_a both) answered s1))
-    action_runs it names flow around inside here (unit.Zero slot size) t plain at text stands answered s = absurd plain
+    action_runs it names flow around inside here (unit.Zero slot size) t plain at text stands answered s =
+        stores.zero_runs program table call it names flow around inside slot size at here answered s t stands
     action_runs it names flow around inside here (unit.Initialize slot byte content core) t plain at text stands
         answered s =
-        absurd plain
+        stores.initialize_runs program table call it names flow around inside slot byte content core here at answered s
+        t.1 t.2 t.3 plain stands
     action_runs it names flow around inside here (unit.InitializeBytes slot byte bytes) t plain at text stands
         answered s =
         absurd plain
@@ -155,7 +158,8 @@ module _ (program : Program) (table : List Through) (call : Call) where
         actions.return_value_runs program table call it names flow around inside core here at _ answered s t.0 t.1 plain
         stands
     action_runs it names flow around inside here (unit.ReturnWhole size core) t plain at text stands answered s =
-        absurd plain
+        stores.return_whole_runs program table call it names flow around inside size core here at _ answered s t.1 t.2
+        t.3 plain stands
 
     items_runs : (it : Running) (names : Names) (flow : FlowTyped) (around : Around)
         (inside : Inside it names flow around) (items : Statements) → StatementsTyped names flow items → ArePlain items

@@ -51,7 +51,7 @@ use Rattle.code_gen.specs.Updates.{Contents as Changed, changed_scalar, new_cont
 use Rattle.code_gen.proofs.Going.{does_bind}
 use Rattle.code_gen.proofs.PlainActs as acts
 
-after_bind : {A B : Type 0} (x : Evaluation A) (f : A → State → Evaluation B) (to : B → State → Place)
+pub after_bind : {A B : Type 0} (x : Evaluation A) (f : A → State → Evaluation B) (to : B → State → Place)
     → after (bind x f) to ≡ after x (λ v s. after (f v s) to)
 after_bind (Gives v s) f to = refl
 after_bind (Stops outcome s) f to = refl
@@ -78,7 +78,7 @@ module _ (it : Running) where
   abbrev now : ℕ → List Value → State → Place
   now at operands s = standing frame rest at operands s
 
-  abbrev any : {A : Type 0} → A → Type 0
+  abbrev pub any : {A : Type 0} → A → Type 0
   any v = Unit {0}
 
   step : {A : Type 0} (at : ℕ) (operands : List Value) (s : State) (instr : Instr) (position : Pos) (x : Evaluation A)
@@ -88,7 +88,7 @@ module _ (it : Running) where
   step at operands s instr position x to fits is d =
       does_one it at operands s instr position x to fits is d
 
-  if_any : {A : Type 0} (x : Evaluation A) → IfGives any x
+  pub if_any : {A : Type 0} (x : Evaluation A) → IfGives any x
   if_any (Gives v s) = tt
   if_any (Stops outcome s) = tt
 

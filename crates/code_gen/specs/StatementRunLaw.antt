@@ -1,5 +1,5 @@
--- The machine's run of the code of a statement is what the meaning of the statement gives: so far of blocks, expression
--- statements, `if`, `break`, `continue`, `return` of no value or a scalar, and marks of const objects.
+-- The machine's run of the code of a statement is what the meaning of the statement gives: so far of blocks,
+-- initializers without literals, expression statements, `if`, `break`, `continue`, `return`, and marks of const objects.
 use Rattle.std.specs.Prelude.{◌≡◌, ℕ, ◌+◌, ◌≤◌, Bool, List, [], ◌++◌, length, map, unwrap_or}
 use Rattle.lib_defs.specs.declared.value.Value.TheVariants.{Nothing}
 use Rattle.run_defs.specs.State.{State}
@@ -26,8 +26,8 @@ abbrev mutual
 
   pub IsPlainAction : Action → Type 0
   IsPlainAction (unit.Block locals items) = ArePlain items
-  IsPlainAction (unit.Zero slot size) = ⊥
-  IsPlainAction (unit.Initialize slot at content value) = ⊥
+  IsPlainAction (unit.Zero slot size) = Unit {0}
+  IsPlainAction (unit.Initialize slot at content value) = IsPlain value
   IsPlainAction (unit.InitializeBytes slot at bytes) = ⊥
   IsPlainAction (unit.SealBytes slot at len) = Unit {0}
   IsPlainAction (unit.Evaluate core) = IsPlain core
@@ -41,7 +41,7 @@ abbrev mutual
   IsPlainAction unit.Continue = Unit {0}
   IsPlainAction unit.Return = Unit {0}
   IsPlainAction (unit.ReturnValue value) = IsPlain value
-  IsPlainAction (unit.ReturnWhole size value) = ⊥
+  IsPlainAction (unit.ReturnWhole size value) = IsPlain value
 
   pub ArePlain : Statements → Type 0
   ArePlain NoStatement = Unit {0}
