@@ -1,10 +1,10 @@
 -- Blocks.
-use Rattle.std.proofs.Common.{◌≡◌, ◌∙◌, ℕ, ◌+◌, Bool, List, [], ◌++◌, refl, ap, sym, subst}
+use Rattle.std.proofs.Common.{◌≡◌, ◌∙◌, ℕ, ◌+◌, Bool, List, [], ◌∷◌, ◌++◌, refl, ap, sym, subst}
 use Rattle.std.proofs.Common.{map, length, reverse, append_assoc}
 use Rattle.std.proofs.lemmas.List.{append-nil, length-map}
 use Rattle.critical_table.specs.declared.pos.Pos.{Pos}
 use Rattle.c_core.specs.declared.statement.Local.{Local}
-use Rattle.c_core.specs.Named.{Names, names_in_block}
+use Rattle.c_core.specs.Named.{Names, names_in_block, objects_with}
 use Rattle.c_core.specs.TreeUnit.{Program}
 use Rattle.c_core.specs.TypedUnit.{AreFresh, Flow as FlowTyped}
 use Rattle.run_defs.specs.State.{State, call_left}
@@ -20,7 +20,7 @@ use Rattle.code_gen.specs.Expressions.{Call}
 use Rattle.code_gen.specs.Flows.{Flow, Next, Broke, Continued, Returned}
 use Rattle.code_gen.specs.RunLaw.{Comes, Reaches, StandAt, Running, stands_at, standing}
 use Rattle.code_gen.specs.StatementCode.{Around, makes, slots_of, kills, kills_of, within_block}
-use Rattle.code_gen.specs.StatementRunLaw.{OnTop, Inside, leads}
+use Rattle.code_gen.specs.StatementRunLaw.{OnTop, Inside, AreSizes, leads}
 use Rattle.code_gen.proofs.Going.{comes_on, comes_same, reaches_gives, reaches_bind}
 use Rattle.code_gen.proofs.Going.{reaches_from, does_then}
 use Rattle.code_gen.proofs.FullExpressions as whole
@@ -40,9 +40,17 @@ on_top_more slots more made held are top = record {
       ∙ ap (λ l. more ++ l) top.slots_are;
 }
 
+-- fresh objects have sizes
+pub sizes_more : (bound : ℕ) (locals objects : List Local) → AreFresh bound locals objects → AreSizes objects
+    → AreSizes (objects_with locals objects)
+sizes_more bound [] objects fresh sizes = sizes
+sizes_more bound (local ∷ rest) objects fresh sizes =
+    sizes_more bound rest (local ∷ objects) fresh.3 (fresh.1, sizes)
+
 module _ (it : Running) (names : Names) (flow : FlowTyped) (around : Around) (inside : Inside it names flow around)
     (locals : List Local) (made : List Held) (answered : Bool)
-    (are : parts.AreMade it locals [] names around.values made) where
+    (are : parts.AreMade it locals [] names around.values made)
+    (fresh : AreFresh flow.slots locals names.objects) where
   abbrev pub block_of : Running
   block_of = stretch.beside it made answered
 
@@ -57,6 +65,7 @@ module _ (it : Running) (names : Names) (flow : FlowTyped) (around : Around) (in
     form_is = inside.form_is;
     above = inside.above;
     named = are.around;
+    sizes = sizes_more flow.slots locals names.objects fresh inside.sizes;
     breaks = on_top_more around.left (reverse (slots_of locals)) made it.frame.held slots_of_made inside.breaks;
     continues =
         on_top_more around.left_again (reverse (slots_of locals)) made it.frame.held slots_of_made inside.continues;
@@ -93,14 +102,14 @@ module _ (program : Program) (table : List Through) (call : Call) where
   -- a block, where its items do what they mean
   pub block_runs : (it : Running) (names : Names) (flow : FlowTyped) (around : Around)
       (inside : Inside it names flow around) (locals : List Local) (items : List Held → State → Evaluation Flow)
-      (position : Pos) (at size : ℕ) (answered : Bool) (s : State) → AreFresh flow.slots locals names.objects
+      (position : Pos) (at size : ℕ) (answered : Bool) (s : State) → (fresh : AreFresh flow.slots locals names.objects)
       → StandAt it.code it.function at (on position (makes locals))
       → StandAt it.code it.function (at + length locals + size) (on position (kills_of locals))
       → ((made : List Held) (s1 : State) (are : parts.AreMade it locals [] names around.values made)
       → Reaches it.environment it.code (stands_at it made answered (at + length locals) [] s1)
       (items (made ++ it.frame.held) s1) (λ f. Bool)
-      (leads (block_of it names flow around inside locals made answered are)
-      (inside_block it names flow around inside locals made answered are) (at + length locals + size)))
+      (leads (block_of it names flow around inside locals made answered are fresh)
+      (inside_block it names flow around inside locals made answered are fresh) (at + length locals + size)))
       → Reaches it.environment it.code (stands_at it [] answered at [] s) (in_block locals items it.frame.held s)
       (λ f. Bool) (leads it inside (at + length locals + size + length locals))
   block_runs it names flow around inside locals items position at size answered s fresh stands dead runs =
@@ -113,13 +122,13 @@ module _ (program : Program) (table : List Through) (call : Call) where
       inside.named stands)
       (λ made s1 are.
       reaches_bind it.environment it.code _ (items (made ++ it.frame.held) s1) _ (λ f. Bool)
-      (leads (block_of it names flow around inside locals made answered are)
-      (inside_block it names flow around inside locals made answered are) next) (λ f. Bool)
+      (leads (block_of it names flow around inside locals made answered are fresh)
+      (inside_block it names flow around inside locals made answered are fresh) next) (λ f. Bool)
       (leads it inside (next + length locals)) (runs made s1 are)
       (λ f s2 answered1.
       reaches_from it.environment it.code _
       (leads it inside (next + length locals) f answered1 (all_died (numbers made) s2))
       (Gives f (all_died (numbers made) s2)) (λ f. Bool) (leads it inside (next + length locals))
-      (block_left it names flow around inside locals made answered are next position dead f answered1 s2)
+      (block_left it names flow around inside locals made answered are fresh next position dead f answered1 s2)
       (reaches_gives it.environment it.code _ f (all_died (numbers made) s2) (λ f. Bool)
       (leads it inside (next + length locals)) answered1 refl)))

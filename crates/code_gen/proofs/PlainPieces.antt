@@ -1,16 +1,32 @@
--- Four pieces of code behind one another.
+-- Pieces of code, and texts, behind one another.
 use Rattle.std.proofs.lemmas.List.{length-append}
 use Rattle.std.specs.Prelude.{length}
 use Rattle.std.specs.Prelude.{◌++◌}
-use Rattle.std.proofs.Common.{◌≡◌, ℕ, ◌+◌, List}
+use Rattle.std.proofs.Common.{◌≡◌, ℕ, ◌+◌, List, [], ◌∷◌, subst}
 use Rattle.std.proofs.Common.{arith}
 use Rattle.critical_table.specs.declared.pos.Pos.{Pos}
 use Rattle.vm_code.specs.declared.instr.Instr.{Instr}
 use Rattle.vm_code.specs.declared.parts.CodeFunction.{CodeFunction}
 use Rattle.vm_code.specs.Contents.{Contents}
 use Rattle.code_gen.specs.RunLaw.{StandAt, Running}
+use Rattle.code_gen.specs.StatementRunLaw.{TextsStandAt}
 use Rattle.code_gen.proofs.Going.{stand_front, stand_back}
 use Rattle.code_gen.proofs.PlainStretches as stretch
+
+-- ---- texts behind one another
+
+pub texts_front : (code : Contents) (text : ℕ) (a b : List (List ℕ)) → TextsStandAt code text (a ++ b)
+    → TextsStandAt code text a
+texts_front code text [] b h = tt
+texts_front code text (x ∷ a) b h = (h.0, texts_front code (text + 1) a b h.1)
+
+pub texts_back : (code : Contents) (text : ℕ) (a b : List (List ℕ)) → TextsStandAt code text (a ++ b)
+    → TextsStandAt code (text + length a) b
+texts_back code text [] b h =
+    let same : text ≡ text + 0 = omega arith in subst (λ k. TextsStandAt code k b) same h
+texts_back code text (x ∷ a) b h =
+    let same : text + 1 + length a ≡ text + length (x ∷ a) = omega arith in
+    subst (λ k. TextsStandAt code k b) same (texts_back code (text + 1) a b h.1)
 
 module _ (it : Running) where
   abbrev code : Contents

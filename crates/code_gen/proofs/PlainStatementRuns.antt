@@ -17,7 +17,8 @@ use Rattle.code_gen.specs.Flows.{Flow, Next}
 use Rattle.code_gen.specs.RunLaw.{Comes, Reaches, StandAt, Running, stands_at}
 use Rattle.code_gen.specs.StatementCode.{Around, makes, kills_of, within_block, full_size, full_code, statement_size}
 use Rattle.code_gen.specs.StatementCode.{items_size, action_size, statement_code, action_code, items_code, texts_in}
-use Rattle.code_gen.specs.StatementRunLaw.{Inside, leads, IsPlainStatement, IsPlainAction, ArePlain}
+use Rattle.code_gen.specs.StatementCode.{texts_of, texts_among}
+use Rattle.code_gen.specs.StatementRunLaw.{Inside, leads, IsPlainStatement, IsPlainAction, ArePlain, TextsStandAt}
 use Rattle.code_gen.specs.StatementRunLaw.{EachPlainStatementRuns}
 use Rattle.code_gen.specs.Statements.{statement, action_done, items_from}
 use Rattle.code_gen.proofs.Going.{one_step, stand_front, stand_back, reaches_gives, reaches_bind}
@@ -44,17 +45,19 @@ module _ (program : Program) (table : List Through) (call : Call) where
     statement_runs : (it : Running) (names : Names) (flow : FlowTyped) (around : Around)
         (inside : Inside it names flow around) (st : Statement) → StatementTyped names flow st → IsPlainStatement st
         → (at text : ℕ) → StandAt it.code it.function at (statement_code program table at text around st)
+        → TextsStandAt it.code text (texts_in st)
         → Runs it inside (statement program call it.frame.result st it.frame.held) at (at + size_of around st)
-    statement_runs it names flow around inside (Stands here action) t plain at text stands =
-        action_runs it names flow around inside here action t plain at text stands
+    statement_runs it names flow around inside (Stands here action) t plain at text stands literals =
+        action_runs it names flow around inside here action t plain at text stands literals
 
     action_runs : (it : Running) (names : Names) (flow : FlowTyped) (around : Around)
         (inside : Inside it names flow around) (here : Pos) (action : Action) → ActionTyped names flow action
         → IsPlainAction action → (at text : ℕ)
         → StandAt it.code it.function at (action_code program table here at text around action)
+        → TextsStandAt it.code text (texts_of action)
         → Runs it inside (action_done program call it.frame.result here action it.frame.held) at
         (at + action_size (length around.left) (length around.left_again) action)
-    action_runs it names flow around inside here (unit.Block locals items) t plain at text stands answered s =
+    action_runs it names flow around inside here (unit.Block locals items) t plain at text stands literals answered s =
         let inner : Around = within_block locals around in
         let n : ℕ = length locals in
         let size : ℕ = items_size (length inner.left) (length inner.left_again) items in
@@ -78,23 +81,24 @@ module _ (program : Program) (table : List Through) (call : Call) where
         (items_from program call it.frame.result items 0) here at size answered s t.0
         (stand_front it.code it.function at a b both) behind
         (λ made s1 are.
-        items_runs (blocks.block_of it names flow around inside locals made answered are) (names_in_block locals names)
-        flow inner (blocks.inside_block it names flow around inside locals made answered are) items t.1 plain (at + n)
-        text (stand_back it.code it.function at n a b long_a both) answered s1))
-    action_runs it names flow around inside here (unit.Zero slot size) t plain at text stands answered s =
+        items_runs (blocks.block_of it names flow around inside locals made answered are t.0) (names_in_block locals names)
+        flow inner (blocks.inside_block it names flow around inside locals made answered are t.0) items t.1 plain (at + n)
+        text (stand_back it.code it.function at n a b long_a both) literals answered s1))
+    action_runs it names flow around inside here (unit.Zero slot size) t plain at text stands literals answered s =
         stores.zero_runs program table call it names flow around inside slot size at here answered s t stands
     action_runs it names flow around inside here (unit.Initialize slot byte content core) t plain at text stands
-        answered s =
+        literals answered s =
         stores.initialize_runs program table call it names flow around inside slot byte content core here at answered s
         t.1 t.2 t.3 plain stands
     action_runs it names flow around inside here (unit.InitializeBytes slot byte bytes) t plain at text stands
-        answered s =
-        absurd plain
-    action_runs it names flow around inside here (unit.SealBytes slot byte len) t plain at text stands answered s =
+        literals answered s =
+        stores.bytes_runs program table call it names flow around inside slot byte text at bytes here answered s t.2
+        literals.0 stands
+    action_runs it names flow around inside here (unit.SealBytes slot byte len) t plain at text stands literals answered s =
         actions.seal_runs program table call it names flow around inside slot byte len here at answered s t.1 stands
-    action_runs it names flow around inside here (unit.Evaluate core) t plain at text stands answered s =
+    action_runs it names flow around inside here (unit.Evaluate core) t plain at text stands literals answered s =
         actions.done_runs program table call it names flow around inside core here at answered s t.0 t.1 plain stands
-    action_runs it names flow around inside here (unit.If test first second) t plain at text stands answered s =
+    action_runs it names flow around inside here (unit.If test first second) t plain at text stands literals answered s =
         let l : ℕ = full_size test in
         let m : ℕ = size_of around first in
         let r : ℕ = size_of around second in
@@ -132,7 +136,8 @@ module _ (program : Program) (table : List Through) (call : Call) where
         actions.from_there program table call it names flow around inside _ (at + (l + 1)) _ next answered1 s1
         first_start
         (actions.goes_on program table call it names flow around inside _ _ (at + (l + 1) + m) next
-        (statement_runs it names flow around inside first t.2 plain.1 (at + (l + 1)) text pieces.third answered1 s1)
+        (statement_runs it names flow around inside first t.2 plain.1 (at + (l + 1)) text pieces.third
+        (pieces_of.texts_front it.code text (texts_in first) (texts_in second) literals) answered1 s1)
         (λ answered2 s2.
         subst (λ k. Comes it.environment it.code (stands_at it [] answered2 k [] s2)
         (stands_at it [] answered2 next [] s2)) (sym first_end)
@@ -140,37 +145,38 @@ module _ (program : Program) (table : List Through) (call : Call) where
         (λ answered1 s1.
         actions.to_there program table call it names flow around inside _ _ (to + r) next second_end
         (statement_runs it names flow around inside second t.3 plain.2 to (text + length (texts_in first)) last
-        answered1 s1))
-    action_runs it names flow around inside here (unit.While test body) t plain at text stands answered s = absurd plain
-    action_runs it names flow around inside here (unit.Do body test) t plain at text stands answered s = absurd plain
-    action_runs it names flow around inside here (unit.For test step body) t plain at text stands answered s = absurd
+        (pieces_of.texts_back it.code text (texts_in first) (texts_in second) literals) answered1 s1))
+    action_runs it names flow around inside here (unit.While test body) t plain at text stands literals answered s = absurd plain
+    action_runs it names flow around inside here (unit.Do body test) t plain at text stands literals answered s = absurd plain
+    action_runs it names flow around inside here (unit.For test step body) t plain at text stands literals answered s = absurd
         plain
     action_runs it names flow around inside here (unit.Switch core locals items cases default) t plain at text stands
-        answered s =
+        literals answered s =
         absurd plain
-    action_runs it names flow around inside here unit.Break t plain at text stands answered s =
+    action_runs it names flow around inside here unit.Break t plain at text stands literals answered s =
         actions.break_runs program table call it names flow around inside here at _ answered s stands
-    action_runs it names flow around inside here unit.Continue t plain at text stands answered s =
+    action_runs it names flow around inside here unit.Continue t plain at text stands literals answered s =
         actions.continue_runs program table call it names flow around inside here at _ answered s stands
-    action_runs it names flow around inside here unit.Return t plain at text stands answered s =
+    action_runs it names flow around inside here unit.Return t plain at text stands literals answered s =
         actions.return_runs program table call it names flow around inside here at _ answered s stands
-    action_runs it names flow around inside here (unit.ReturnValue core) t plain at text stands answered s =
+    action_runs it names flow around inside here (unit.ReturnValue core) t plain at text stands literals answered s =
         actions.return_value_runs program table call it names flow around inside core here at _ answered s t.0 t.1 plain
         stands
-    action_runs it names flow around inside here (unit.ReturnWhole size core) t plain at text stands answered s =
+    action_runs it names flow around inside here (unit.ReturnWhole size core) t plain at text stands literals answered s =
         stores.return_whole_runs program table call it names flow around inside size core here at _ answered s t.1 t.2
         t.3 plain stands
 
     items_runs : (it : Running) (names : Names) (flow : FlowTyped) (around : Around)
         (inside : Inside it names flow around) (items : Statements) → StatementsTyped names flow items → ArePlain items
         → (at text : ℕ) → StandAt it.code it.function at (items_code program table at text around items)
+        → TextsStandAt it.code text (texts_among items)
         → Runs it inside (items_from program call it.frame.result items 0 it.frame.held) at
         (at + items_size (length around.left) (length around.left_again) items)
-    items_runs it names flow around inside NoStatement t plain at text stands answered s =
+    items_runs it names flow around inside NoStatement t plain at text stands literals answered s =
         let same : at ≡ at + 0 = omega arith in
         reaches_gives it.environment it.code _ Next s (λ f. Bool) (leads it inside (at + 0)) answered
         (ap (λ k. stands_at it [] answered k [] s) same)
-    items_runs it names flow around inside (MoreStatements first rest) t plain at text stands answered s =
+    items_runs it names flow around inside (MoreStatements first rest) t plain at text stands literals answered s =
         let m : ℕ = size_of around first in
         let r : ℕ = items_size (length around.left) (length around.left_again) rest in
         let a : List (Instr × Pos) = statement_code program table at text around first in
@@ -179,17 +185,18 @@ module _ (program : Program) (table : List Through) (call : Call) where
         reaches_bind it.environment it.code _ (statement program call it.frame.result first it.frame.held s) _
         (λ f. Bool) (leads it inside (at + m)) (λ f. Bool) (leads it inside (at + (m + r)))
         (statement_runs it names flow around inside first t.0 plain.0 at text
-        (stand_front it.code it.function at a b stands) answered s)
+        (stand_front it.code it.function at a b stands)
+        (pieces_of.texts_front it.code text (texts_in first) (texts_among rest) literals) answered s)
         (λ f s1 answered1.
         actions.after_runs program table call it names flow around inside f
         (items_from program call it.frame.result rest 0 it.frame.held) (at + m) (at + (m + r)) answered1 s1
         (λ answered2 s2.
         actions.to_there program table call it names flow around inside _ _ (at + m + r) _ same
         (items_runs it names flow around inside rest t.1 plain.1 (at + m) (text + length (texts_in first))
-        (stand_back it.code it.function at m a b (statement_long program table at text around first) stands) answered2
-        s2)))
+        (stand_back it.code it.function at m a b (statement_long program table at text around first) stands)
+        (pieces_of.texts_back it.code text (texts_in first) (texts_among rest) literals) answered2 s2)))
 
 -- as the statement has it
 pub statements_run : EachPlainStatementRuns
-statements_run it program table call names flow around inside st t plain at text stands =
-    statement_runs program table call it names flow around inside st t plain at text stands
+statements_run it program table call names flow around inside st t plain at text stands literals =
+    statement_runs program table call it names flow around inside st t plain at text stands literals

@@ -1,14 +1,19 @@
 -- What initializers do, and the `return` of a structure.
 use Rattle.std.proofs.Common.{◌≡◌, ◌∙◌, ℕ, zero, suc, ◌+◌, ◌≤◌, Bool, List, [], ◌∷◌, ◌++◌, refl, ap, sym, subst, arith}
-use Rattle.std.proofs.Common.{replicate, Option, Some, None}
-use Rattle.std.specs.Prelude.{IsSomeAnd}
+use Rattle.std.proofs.Common.{replicate, length, Option, Some, None, true, false, cond, ◌*◌, ◌==◌}
+use Rattle.std.proofs.lemmas.Bool.{le-leb}
+use Rattle.std.proofs.lemmas.List.{length-map}
+use Rattle.std.specs.Prelude.{IsSomeAnd, nat_le}
+use Rattle.std.specs.List.{slice_get}
 use Rattle.critical_table.specs.declared.pos.Pos.{Pos}
+use Rattle.object_store.specs.declared.by.By.TheVariants.{Store}
 use Rattle.object_store.specs.declared.pointer.Pointer.{Pointer}
 use Rattle.c_core.specs.declared.form.Form.{Form}
 use Rattle.c_core.specs.declared.form.Form.TheVariants as form
 use Rattle.c_core.specs.declared.form.Scalar.TheVariants as scalar
 use Rattle.c_core.specs.declared.form.Content.{Content}
 use Rattle.c_core.specs.declared.form.Content.TheVariants as content
+use Rattle.c_core.specs.declared.statement.Local.{Local}
 use Rattle.c_core.specs.Forms.{form_of, given_form, content_form}
 use Rattle.c_core.specs.Named.{Names, size_in, LieIn}
 use Rattle.c_core.specs.Tree.{Core, pos_in}
@@ -18,8 +23,9 @@ use Rattle.c_core.specs.Types.{content_size}
 use Rattle.c_core.specs.TypedUnit.{Flow as FlowTyped}
 use Rattle.lib_defs.specs.declared.value.Value.{Value}
 use Rattle.lib_defs.specs.declared.value.Value.TheVariants.{Ptr}
-use Rattle.run_defs.specs.State.{State, call_left}
-use Rattle.run_defs.specs.Evaluation.{Evaluation, Gives, bind, stored}
+use Rattle.lib_defs.specs.Units.{size, rsize_max}
+use Rattle.run_defs.specs.State.{State, call_left, patched}
+use Rattle.run_defs.specs.Evaluation.{Evaluation, Gives, bind, stored, reached}
 use Rattle.run_defs.specs.Functions.{Environment}
 use Rattle.run_defs.specs.Loads.{known}
 use Rattle.vm_code.specs.declared.instr.Instr.{Instr}
@@ -28,7 +34,7 @@ use Rattle.vm_code.specs.Accesses.{pointer_in, copied, content_stored}
 use Rattle.vm_code.specs.Calling.{returned, left_by, leaves}
 use Rattle.vm_code.specs.Contents.{Contents}
 use Rattle.vm_code.specs.Frames.{Place, after}
-use Rattle.vm_code.specs.Machine.{on_form}
+use Rattle.vm_code.specs.Machine.{on_form, pools, text_stored}
 use Rattle.vm_code.specs.Pointers.{member_place}
 use Rattle.vm_code.specs.Slots.{Held, held_in, numbers, all_died}
 use Rattle.code_gen.specs.CalledTypes.{Through}
@@ -40,11 +46,11 @@ use Rattle.code_gen.specs.Expressions.{Call, value}
 use Rattle.code_gen.specs.Flows.{Flow, Next, Returned}
 use Rattle.code_gen.specs.RunLaw.{HasKind, pushed, IsPlain, Left, Comes, Reaches, StandAt, Running, stands_at}
 use Rattle.code_gen.specs.StatementCode.{Around, content_code, kills, slots_down, full_size}
-use Rattle.code_gen.specs.StatementRunLaw.{Inside, leads}
+use Rattle.code_gen.specs.StatementRunLaw.{Inside, AreSizes, leads}
 use Rattle.code_gen.specs.Statements.{evaluated, then_next}
 use Rattle.code_gen.proofs.Going.{Does, comes_on, comes_same, one_step, stand_front, stand_back, reaches_from}
 use Rattle.code_gen.proofs.Going.{reaches_gives, reaches_bind, does_from, does_same, does_on}
-use Rattle.code_gen.proofs.Going.{does_then, does_reaches}
+use Rattle.code_gen.proofs.Going.{does_then, does_reaches, sees}
 use Rattle.code_gen.proofs.FullExpressions as whole
 use Rattle.code_gen.proofs.Lengths.{code_long}
 use Rattle.code_gen.proofs.PlainActions as actions
@@ -56,6 +62,24 @@ use Rattle.code_gen.proofs.PlainUpdates as updates
 zeros_known : (n : ℕ) → known (replicate n 0) ≡ replicate n (Some 0)
 zeros_known zero = refl
 zeros_known (suc n) = ap (λ l. Some 0 ∷ l) (zeros_known n)
+
+-- what lies in an object is no longer than the greatest one
+room_in : (objects : List Local) (slot byte len : ℕ) → AreSizes objects → LieIn objects slot byte len → len ≤ rsize_max
+room_in [] slot byte len sizes lies = absurd lies
+room_in (local ∷ objects) slot byte len sizes lies =
+    by_slot (local.slot == slot) (room_in objects slot byte len sizes.1) lies
+  where
+    by_slot : (b : Bool) → (LieIn objects slot byte len → len ≤ rsize_max)
+        → IsSomeAnd (cond b (Some local.size) (size_in slot objects)) (λ size. byte + len ≤ size) → len ≤ rsize_max
+    by_slot true later within = let most : local.size ≤ rsize_max = sizes.0.1 in omega (arith, within, most)
+    by_slot false later within = later within
+
+-- the length of a text that lies in an object isn't cut
+text_long : (bytes : List ℕ) → length bytes ≤ rsize_max → size 1 (length bytes) ≡ length (known bytes)
+text_long bytes most =
+    let one : 1 * length bytes ≡ length bytes = omega arith in
+    let fits : nat_le (1 * length bytes) rsize_max ≡ true = le-leb _ _ (omega (arith, one, most)) in
+    rw fits (one ∙ sym (length-map bytes (λ (b : ℕ). Some b)))
 
 module _ (it : Running) where
   abbrev now : List Held → Bool → ℕ → List Value → State → Place
@@ -185,6 +209,30 @@ module _ (program : Program) (table : List Through) (call : Call) (it : Running)
       (does_same e code _ x to (λ u. Unit {0})
       (ap (λ bytes. after (stored 1 (record { place = place slot; bytes = bytes }) position s) to)
       (sym (zeros_known size))) (updates.if_any it x)))
+
+  -- a literal is stored in a part of it
+  pub bytes_runs : (slot byte text at : ℕ) (bytes : List ℕ) (position : Pos) (answered : Bool) (s : State)
+      → LieIn names.objects slot byte (length bytes) → slice_get it.code.texts text ≡ Some bytes
+      → StandsAt at (on position (i.Slot slot ∷ i.Member byte ∷ i.Pool text ∷ []))
+      → Goes (here [] answered at [] s)
+      (then_next (stored 1 (record { place = member_place byte (place slot); bytes = known bytes }) position s)) (at + 3)
+  bytes_runs slot byte text at bytes position answered s lies is stands =
+      let q : Pointer = member_place byte (place slot) in
+      let x : Evaluation (Unit {0}) = stored 1 (record { place = q; bytes = known bytes }) position s in
+      let y : Evaluation (Unit {0}) = text_stored q bytes position s in
+      let other : Running = stretch.beside it [] answered in
+      let to : Unit {0} → State → Place = λ u s1. here [] answered (at + 1 + 1 + 1) [] s1 in
+      let long : size 1 (length bytes) ≡ length (known bytes) = text_long bytes
+      (room_in names.objects slot byte (length bytes) inside.sizes lies) in
+      let same : y ≡ x = ap (λ n. bind (reached (record { place = q; len = n; align = 1; by = Store }) position s)
+      (λ u s1. Gives tt (patched (record { place = q; bytes = known bytes }) s1))) long in
+      next_runs _ x (at + 1 + 1 + 1) (at + 3) answered (omega arith)
+      (does_from e code _ (after y to) x to (λ u. Unit {0})
+      (comes_on e code _ _ _ (part_comes slot byte (length bytes) at position answered s lies
+      (stands.0, (stands.1.0, tt)))
+      (comes_on e code _ _ _ (one_step other (at + 1 + 1) (Ptr q ∷ []) s (i.Pool text) position stands.1.1.0)
+      (comes_same e code _ (after y to) (ap (λ o. pools (sees other (at + 1 + 1) (Ptr q ∷ []) position s) o q []) is))))
+      (does_same e code (after y to) x to (λ u. Unit {0}) (ap (λ ev. after ev to) same) (updates.if_any it x)))
 
   -- a scalar, or a structure, is stored in a part of it
   pub initialize_runs : (slot byte : ℕ) (of : Content) (core : Core) (position : Pos) (at : ℕ) (answered : Bool)

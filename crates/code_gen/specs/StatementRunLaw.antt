@@ -1,21 +1,25 @@
 -- The machine's run of the code of a statement is what the meaning of the statement gives: so far of blocks,
--- initializers without literals, expression statements, `if`, `break`, `continue`, `return`, and marks of const objects.
-use Rattle.std.specs.Prelude.{◌≡◌, ℕ, ◌+◌, ◌≤◌, Bool, List, [], ◌++◌, length, map, unwrap_or}
+-- initializers, expression statements, `if`, `break`, `continue`, `return`, and marks of const objects.
+use Rattle.std.specs.Prelude.{◌≡◌, ℕ, ◌+◌, ◌≤◌, Bool, List, [], ◌∷◌, ◌++◌, length, map, unwrap_or, Some}
+use Rattle.std.specs.List.{slice_get}
 use Rattle.lib_defs.specs.declared.value.Value.TheVariants.{Nothing}
 use Rattle.run_defs.specs.State.{State}
 use Rattle.c_core.specs.Forms.{given_form}
+use Rattle.c_core.specs.declared.statement.Local.{Local}
 use Rattle.c_core.specs.Named.{Names}
 use Rattle.c_core.specs.TreeUnit.{Statement, Stands, Action, Statements, NoStatement, MoreStatements, Program}
 use Rattle.c_core.specs.TreeUnit as unit
+use Rattle.c_core.specs.Types.{IsSize}
 use Rattle.c_core.specs.TypedUnit.{Flow as FlowTyped, StatementTyped}
 use Rattle.vm_code.specs.Calling.{leaves}
+use Rattle.vm_code.specs.Contents.{Contents}
 use Rattle.vm_code.specs.Frames.{Place}
 use Rattle.vm_code.specs.Slots.{Held, numbers, all_died}
 use Rattle.code_gen.specs.CalledTypes.{Through}
 use Rattle.code_gen.specs.Expressions.{Call}
 use Rattle.code_gen.specs.Flows.{Flow, Next, Broke, Continued, Returned}
 use Rattle.code_gen.specs.RunLaw.{IsPlain, IsAround, Reaches, Running, StandAt, standing, stands_at}
-use Rattle.code_gen.specs.StatementCode.{Around, statement_size, statement_code}
+use Rattle.code_gen.specs.StatementCode.{Around, statement_size, statement_code, texts_in}
 use Rattle.code_gen.specs.Statements.{statement}
 
 -- ---- the statements that are covered
@@ -28,7 +32,7 @@ abbrev mutual
   IsPlainAction (unit.Block locals items) = ArePlain items
   IsPlainAction (unit.Zero slot size) = Unit {0}
   IsPlainAction (unit.Initialize slot at content value) = IsPlain value
-  IsPlainAction (unit.InitializeBytes slot at bytes) = ⊥
+  IsPlainAction (unit.InitializeBytes slot at bytes) = Unit {0}
   IsPlainAction (unit.SealBytes slot at len) = Unit {0}
   IsPlainAction (unit.Evaluate core) = IsPlain core
   IsPlainAction (unit.If test first second) =
@@ -56,11 +60,18 @@ pub record OnTop (slots : List ℕ) (held : List Held) : Type 0 where
   pub both : held ≡ left ++ others
   pub slots_are : map (λ (h : Held). h.slot) left ≡ slots
 
--- A function gives what its code says; objects that a statement may name are held, and those that its jumps leave.
+-- each is the size of an object
+abbrev pub AreSizes : List Local → Type 0
+AreSizes [] = Unit {0}
+AreSizes (local ∷ rest) = IsSize local.size × AreSizes rest
+
+-- A function gives what its code says; objects that a statement may name have sizes and are held, and so are those that
+-- its jumps leave.
 pub record Inside (it : Running) (names : Names) (flow : FlowTyped) (around : Around) : Type 0 where
   pub form_is : it.function.form ≡ given_form flow.gives
   pub above : flow.slots ≤ around.values
   pub named : IsAround names around.values it.frame.held
+  pub sizes : AreSizes names.objects
   pub breaks : OnTop around.left it.frame.held
   pub continues : OnTop around.left_again it.frame.held
 
@@ -79,12 +90,20 @@ leads {around = around} it inside next Continued answered s = jumped it inside.c
 leads it inside next (Returned value) answered s =
     leaves it.environment it.code it.function.form it.frame (unwrap_or value Nothing) it.rest s
 
--- Where the code of a statement stands, the machine does what the statement means, and goes on where the program does.
+-- these are the texts of the code from a number on
+abbrev pub TextsStandAt : Contents → ℕ → List (List ℕ) → Type 0
+TextsStandAt code text [] = Unit {0}
+TextsStandAt code text (bytes ∷ rest) =
+    (slice_get code.texts text ≡ Some bytes) × TextsStandAt code (text + 1) rest
+
+-- Where the code of a statement stands, with the literals that initialize its arrays, the machine does what the
+-- statement means, and goes on where the program does.
 abbrev pub EachPlainStatementRuns : Type 0
 EachPlainStatementRuns = (it : Running) (program : Program) (table : List Through) (call : Call) (names : Names)
     (flow : FlowTyped) (around : Around) (inside : Inside it names flow around) (st : Statement)
     → StatementTyped names flow st → IsPlainStatement st → (at text : ℕ)
-    → StandAt it.code it.function at (statement_code program table at text around st) → (answered : Bool) (s : State)
+    → StandAt it.code it.function at (statement_code program table at text around st)
+    → TextsStandAt it.code text (texts_in st) → (answered : Bool) (s : State)
     → Reaches it.environment it.code (stands_at it [] answered at [] s)
     (statement program call it.frame.result st it.frame.held s) (λ f. Bool)
     (leads it inside (at + statement_size (length around.left) (length around.left_again) st))
