@@ -1,0 +1,8 @@
+-- The names so far are bound.
+use Rattle.std.proofs.Common.{take, map}
+use Rattle.c_predeclared.specs.Binds.{Binds, type_entry}
+use Rattle.c_predeclared.proofs.binding.bind_types.Given as goal
+
+abbrev pub invariant-loop-entry : goal.invariant-loop-entry
+invariant-loop-entry l =
+    Binds (map type_entry (take l.entry-index l.names)) l.initial.scopes l.types l.scopes l.types
