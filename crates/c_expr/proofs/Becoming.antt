@@ -28,6 +28,11 @@ tag_seen types (b.Constant of value) = refl
 tag_seen types (b.NullPointer of) = refl
 tag_seen types (b.Tag of state) = refl
 
+-- where nothing has changed
+pub becomes_own : (scopes : List Scope) (types : Types) → ScopesIn types scopes
+    → Becomes (env_of scopes types) types scopes types
+becomes_own scopes types here = record { is = refl; here = here; grown = grows_own types }
+
 -- behind a binding
 pub becomes_bound : (types : Types) (old new : List Scope) (name : List ℕ) (binding : Binding) → ScopesIn types old
     → BindingIn types binding → new ≡ bound old (is_tag binding) name binding

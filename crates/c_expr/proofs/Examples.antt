@@ -29,8 +29,9 @@ use Rattle.c_scopes.specs.Scopes.{no_names, found}
 use Rattle.c_conversions.specs.Kinds.{basic_type, pointer_to}
 use Rattle.c_type_rules.specs.declared.context.Setting.TheVariants as setting
 use Rattle.c_expr.specs.Answers.{Answer, Gives, Refuses, and_then, settle}
-use Rattle.c_expr.specs.Declaring.{Around, of_derivations, derived_type, outer_type}
-use Rattle.c_expr.specs.Outlines.{bare_context, of_specifiers}
+use Rattle.c_expr.specs.declared.derivations.Around.{Around}
+use Rattle.c_expr.specs.Declaring.{of_derivations, derived_type}
+use Rattle.c_expr.specs.Outlines.{bare_context, of_specifiers, type_on}
 use Rattle.c_expr.specs.Typing.{typed, named, each_specified, one_specified, members_typed, member_typed}
 use Rattle.c_expr.specs.Typing.{each_member, enumerated, enumerator_value, derived, array_length, parameters_typed}
 use Rattle.c_expr.specs.Typing.{parameter_typed, specified, declared}
@@ -92,7 +93,7 @@ array_of_pointers : named (at 9) (NamedType (only int_word) (PointerTo [] (Array
 unfolding typed named each_specified one_specified members_typed member_typed each_member enumerated
     enumerator_value derived array_length parameters_typed parameter_typed and_then settle of_specifiers
     of_derivations
-    derived_type outer_type as_value as_used
+    derived_type type_on as_value as_used
 array_of_pointers = refl
 
 -- int (*)(void)
@@ -102,7 +103,7 @@ pointer_to_function : named (at 9) (NamedType (only int_word) (FunctionOf (DPare
 unfolding typed named each_specified one_specified members_typed member_typed each_member enumerated
     enumerator_value derived array_length parameters_typed parameter_typed and_then settle of_specifiers
     of_derivations
-    derived_type outer_type as_value as_used
+    derived_type type_on as_value as_used
 pointer_to_function = refl
 
 -- int (*)(int [5])
@@ -113,7 +114,7 @@ parameter_is_adjusted : named (at 9) (NamedType (only int_word) (FunctionOf (DPa
 unfolding typed named each_specified one_specified members_typed member_typed each_member enumerated
     enumerator_value derived array_length parameters_typed parameter_typed and_then settle of_specifiers
     of_derivations
-    derived_type outer_type as_value as_used
+    derived_type type_on as_value as_used
 parameter_is_adjusted = refl
 
 -- void x[2]: the elements are incomplete, which is told at the name
@@ -121,7 +122,7 @@ array_of_void : declared outside (ArrayOf (Name (at 6) (codes "x")) (With (numbe
 unfolding typed named each_specified one_specified members_typed member_typed each_member enumerated
     enumerator_value derived array_length parameters_typed parameter_typed and_then settle of_specifiers
     of_derivations
-    derived_type outer_type as_value as_used
+    derived_type type_on as_value as_used
 array_of_void = refl
 
 -- int a[0]: the length is told at itself
@@ -129,7 +130,7 @@ length_zero : declared outside (ArrayOf (Name (at 5) (codes "a")) (With (number 
 unfolding typed named each_specified one_specified members_typed member_typed each_member enumerated
     enumerator_value derived array_length parameters_typed parameter_typed and_then settle of_specifiers
     of_derivations
-    derived_type outer_type as_value as_used
+    derived_type type_on as_value as_used
 length_zero = refl
 
 -- char a[16777217]
@@ -138,7 +139,7 @@ too_large : declared outside (ArrayOf (Name (at 6) (codes "a")) (With (number 8 
 unfolding typed named each_specified one_specified members_typed member_typed each_member enumerated
     enumerator_value derived array_length parameters_typed parameter_typed and_then settle of_specifiers
     of_derivations
-    derived_type outer_type as_value as_used
+    derived_type type_on as_value as_used
 too_large = refl
 
 -- int a[y][0]: the first length fails first, by its name
@@ -148,7 +149,7 @@ first_length_first : declared outside (ArrayOf (ArrayOf (Name (at 5) (codes "a")
 unfolding typed named each_specified one_specified members_typed member_typed each_member enumerated
     enumerator_value derived array_length parameters_typed parameter_typed and_then settle of_specifiers
     of_derivations
-    derived_type outer_type as_value as_used
+    derived_type type_on as_value as_used
 first_length_first = refl
 
 -- int f(int x, int x)
@@ -159,7 +160,7 @@ parameter_twice : declared outside (FunctionOf (Name (at 5) (codes "f")) (MorePa
 unfolding typed named each_specified one_specified members_typed member_typed each_member enumerated
     enumerator_value derived array_length parameters_typed parameter_typed and_then settle of_specifiers
     of_derivations
-    derived_type outer_type as_value as_used
+    derived_type type_on as_value as_used
 parameter_twice = refl
 
 -- int printf(int, ...), and int f(int, ...)
@@ -168,7 +169,7 @@ printf_may_vary : declared (record { at = at 1; may_vary = true }) (with_more (c
 unfolding typed named each_specified one_specified members_typed member_typed each_member enumerated
     enumerator_value derived array_length parameters_typed parameter_typed and_then settle of_specifiers
     of_derivations
-    derived_type outer_type as_value as_used
+    derived_type type_on as_value as_used
 printf_may_vary = refl
 
 others_may_not_vary : declared (record { at = at 1; may_vary = true }) (with_more (codes "f")) int empty ≡ Refuses
@@ -176,7 +177,7 @@ others_may_not_vary : declared (record { at = at 1; may_vary = true }) (with_mor
 unfolding typed named each_specified one_specified members_typed member_typed each_member enumerated
     enumerator_value derived array_length parameters_typed parameter_typed and_then settle of_specifiers
     of_derivations
-    derived_type outer_type as_value as_used
+    derived_type type_on as_value as_used
 others_may_not_vary = refl
 
 -- restrict int
@@ -186,7 +187,7 @@ restrict_int : specified (bare_context setting.TypeName) (MoreSpecifiers (TypeQu
 unfolding typed named each_specified one_specified members_typed member_typed each_member enumerated
     enumerator_value derived array_length parameters_typed parameter_typed and_then settle of_specifiers
     of_derivations
-    derived_type outer_type as_value as_used
+    derived_type type_on as_value as_used
 restrict_int = refl
 
 -- struct s { struct s *p; }: the structure is in scope in its own body
@@ -198,7 +199,7 @@ refers_to_itself : members_behind (specified (bare_context setting.File) (only (
 unfolding typed named each_specified one_specified members_typed member_typed each_member enumerated
     enumerator_value derived array_length parameters_typed parameter_typed and_then settle of_specifiers
     of_derivations
-    derived_type outer_type as_value as_used
+    derived_type type_on as_value as_used
 refers_to_itself = refl
 
 -- struct s { struct s p; }: but incomplete
@@ -209,7 +210,7 @@ contains_itself : specified (bare_context setting.File) (only (Compound (at 1) S
 unfolding typed named each_specified one_specified members_typed member_typed each_member enumerated
     enumerator_value derived array_length parameters_typed parameter_typed and_then settle of_specifiers
     of_derivations
-    derived_type outer_type as_value as_used
+    derived_type type_on as_value as_used
 contains_itself = refl
 
 -- enum e, which no body declares
@@ -218,7 +219,7 @@ unknown_enumeration : specified (bare_context setting.File) (only (EnumTag (at 1
 unfolding typed named each_specified one_specified members_typed member_typed each_member enumerated
     enumerator_value derived array_length parameters_typed parameter_typed and_then settle of_specifiers
     of_derivations
-    derived_type outer_type as_value as_used
+    derived_type type_on as_value as_used
 unknown_enumeration = refl
 
 -- enum { A = 3, B }: what B stands for
@@ -229,7 +230,7 @@ next_enumerator : named_behind (codes "B") (specified (bare_context setting.File
 unfolding typed named each_specified one_specified members_typed member_typed each_member enumerated
     enumerator_value derived array_length parameters_typed parameter_typed and_then settle of_specifiers
     of_derivations
-    derived_type outer_type as_value as_used
+    derived_type type_on as_value as_used
 next_enumerator = refl
 
 -- enum { A = 2147483647, A }: twice, and no int
@@ -239,5 +240,5 @@ twice_and_too_large : specified (bare_context setting.File) (only (Enum (at 1) N
 unfolding typed named each_specified one_specified members_typed member_typed each_member enumerated
     enumerator_value derived array_length parameters_typed parameter_typed and_then settle of_specifiers
     of_derivations
-    derived_type outer_type as_value as_used
+    derived_type type_on as_value as_used
 twice_and_too_large = refl

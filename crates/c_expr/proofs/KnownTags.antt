@@ -2,7 +2,7 @@
 use Rattle.std.proofs.Common.{◌≡◌, ◌∙◌, sym, List, Bool, true}
 use Rattle.std.specs.Prelude.{Option, Some, None}
 use Rattle.c_types.specs.declared.shape.TypeId.{TypeId}
-use Rattle.c_types.specs.CType.{type_of}
+use Rattle.c_types.specs.CType.{CType, type_of}
 use Rattle.c_types.specs.Structures.{structures_of}
 use Rattle.c_types.specs.Types.{Types}
 use Rattle.c_core.specs.Ids.{IdIn}
@@ -10,7 +10,7 @@ use Rattle.c_syntax.specs.declared.specifier.Tag.{Tag}
 use Rattle.c_scopes.specs.declared.binding.Binding.TheVariants as b
 use Rattle.c_scopes.specs.declared.binding.TagState.TheVariants as state
 use Rattle.c_scopes.specs.Clauses.{OptionIn, type_or_none}
-use Rattle.c_scopes.specs.Env.{env_of}
+use Rattle.c_scopes.specs.Env.{Env, env_of}
 use Rattle.c_scopes.specs.Named.{TagOf, named_of}
 use Rattle.c_scopes.specs.Ruled.{Fits}
 use Rattle.c_scopes.specs.Scopes.{Scope, found_here}
@@ -105,6 +105,16 @@ enumerators_of_new tag before after old new id fits made = record {
       (fits_given tag.pos (env_of before old)
       (enumerated_body_rule (found_here (env_of before old).scopes true tag.name)) tt fits)
       ∙ (λ i. Gives (sym made.stands_for i) (sym made.becomes.is i));
+  is_in = made.is_in;
+  here = made.becomes.here;
+  grown = made.becomes.grown;
+}
+
+-- what is made without a tag
+pub made_given : (type : CType) (after : Env) (scopes : List Scope) (old new : Types) (id : TypeId)
+    → BecomesWith type after old scopes new id → Given (Gives type after) (type_of new id) (λ t. IdIn t id) old scopes new
+made_given type after scopes old new id made = record {
+  is = λ i. Gives (sym made.stands_for i) (sym made.becomes.is i);
   is_in = made.is_in;
   here = made.becomes.here;
   grown = made.becomes.grown;

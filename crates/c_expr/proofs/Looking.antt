@@ -35,3 +35,10 @@ tag_looked_up types scopes true name result e =
     ap (option_map (named_of types)) e ∙ sym (found_here_seen types scopes true name)
 tag_looked_up types scopes false name result e =
     ap (option_map (named_of types)) e ∙ sym (found_seen types scopes true name)
+
+-- in the innermost scope alone
+pub here_looked_up : (types : Types) (scopes : List Scope) (tag : Bool) (name : List ℕ) (result : Option Binding)
+    → result ≡ found_here scopes tag name
+    → option_map (named_of types) result ≡ found_here (env_of scopes types).scopes tag name
+here_looked_up types scopes tag name result e =
+    ap (option_map (named_of types)) e ∙ sym (found_here_seen types scopes tag name)

@@ -1,5 +1,5 @@
 -- What the functions of the program ensure: they answer what the walk does, unless memory runs out.
-use Rattle.std.specs.Prelude.{◌≡◌, List, Option, Result, Ok, Err}
+use Rattle.std.specs.Prelude.{◌≡◌, ℤ, List, Option, Result, Ok, Err}
 use Rattle.c_types.specs.declared.shape.TypeId.{TypeId}
 use Rattle.c_types.specs.CType.{CType, type_of}
 use Rattle.c_types.specs.Making.{Grows}
@@ -49,3 +49,10 @@ AnswersType = Answers type_of IdIn
 abbrev pub AnswersOption : Answer (Option CType) → Types → List Scope → Types → Result (Option TypeId) TypeFault
     → Type 0
 AnswersOption = Answers type_or_none OptionIn
+
+-- nothing but what is in scope behind
+abbrev pub AnswersUnit : Answer (Unit {0}) → Types → List Scope → Types → Result (Unit {0}) TypeFault → Type 0
+AnswersUnit = Answers (λ types done. done) (λ types done. Unit {0})
+
+abbrev pub AnswersNumber : Answer ℤ → Types → List Scope → Types → Result ℤ TypeFault → Type 0
+AnswersNumber = Answers (λ types n. n) (λ types n. Unit {0})

@@ -9,3 +9,4 @@ pub mod Operands
 pub mod Uses
 pub mod Typing
 pub mod Clauses
+pub mod Seen

@@ -4,12 +4,15 @@ use Rattle.critical_table.specs.declared.pos.Pos.{Pos}
 use Rattle.c_types.specs.CType.{CType, void}
 use Rattle.c_types.specs.Qualified.{with_quals}
 use Rattle.c_syntax.specs.declared.specifier.BasicWord.{BasicWord}
+use Rattle.c_syntax.specs.declared.specifier.Qualifier.{Qualifier}
+use Rattle.c_syntax.specs.declared.specifier.Storage.{Storage}
 use Rattle.c_syntax.specs.Tree.{Specifiers}
 use Rattle.c_scopes.specs.Env.{Env}
 use Rattle.c_scopes.specs.Named.{Named, TypedefOf}
 use Rattle.c_scopes.specs.Ruled.{Ruled, Fits, Breaks}
 use Rattle.c_scopes.specs.Scopes.{found}
-use Rattle.c_type_rules.specs.Qualified.{quals_of_words}
+use Rattle.c_type_rules.specs.Qualified.{quals_of_words, restrict_rule}
+use Rattle.c_type_rules.specs.Settings.{storage_rule, inline_rule}
 use Rattle.c_type_rules.specs.Words.{basic_rule}
 use Rattle.c_type_rules.specs.declared.context.Context.{Context}
 use Rattle.c_type_rules.specs.declared.context.Setting.{Setting}
@@ -49,12 +52,34 @@ nothing = record { storage = false; basic = false; type = void }
 abbrev pub of_type : Before → CType → Before
 of_type before type = record before { type = type }
 
+-- ---- one specifier behind others
+
+abbrev pub storage_on : Setting → Before → Pos → Storage → Env → Answer Before
+storage_on setting before at word env =
+    and_then (settle at env (storage_rule setting before.storage word))
+    (λ stands env. Gives (record { storage = true; basic = before.basic; type = before.type }) env)
+
+abbrev pub qualifier_on : Outline → Before → Pos → Qualifier → Env → Answer Before
+qualifier_on whole before at word env =
+    and_then (settle at env (restrict_rule whole.typedef word)) (λ stands env. Gives before env)
+
+abbrev pub inline_on : Context → Outline → Before → Pos → Env → Answer Before
+inline_on context whole before at env =
+    and_then (settle at env (inline_rule context whole.static)) (λ stands env. Gives before env)
+
+-- a specifier that is a type
+unfoldable pub type_on : Before → Answer CType → Answer Before
+type_on before type = and_then type (λ type env. Gives (of_type before type) env)
+
 -- the words of a basic type are told at the first of them
-abbrev pub basic_on : Pos → Outline → Bool → Before → Env → Answer Before
-basic_on at whole true before env = Gives before env
-basic_on at whole false before env =
+abbrev pub first_basic : Pos → Outline → Before → Env → Answer Before
+first_basic at whole before env =
     and_then (settle at env (basic_rule whole.words))
     (λ type env. Gives (record { storage = before.storage; basic = true; type = type }) env)
+
+abbrev pub basic_on : Pos → Outline → Bool → Before → Env → Answer Before
+basic_on at whole true before env = Gives before env
+basic_on at whole false before env = first_basic at whole before env
 
 -- A typedef name is in scope wherever a parser takes it for one.
 abbrev pub typedef_rule : Option CType → Ruled CType

@@ -11,11 +11,11 @@ use Rattle.c_scopes.specs.declared.binding.TagState.TheVariants as state
 use Rattle.c_scopes.specs.Env.{Env}
 use Rattle.c_scopes.specs.Named.{Named, TagOf}
 use Rattle.c_scopes.specs.Scopes.{found, found_here}
-use Rattle.c_type_rules.specs.Members.{body_rule}
+use Rattle.c_type_rules.specs.Members.{body_rule, content_rule}
 use Rattle.c_type_rules.specs.Tags.{compound_tag_rule, compound_body_rule, enumerated_tag_rule, enumerated_body_rule}
 use Rattle.c_type_rules.specs.Tags.{next_compound, next_enumerated}
 use Rattle.c_expr.specs.Answers.{Answer, Gives, and_then, settle}
-use Rattle.c_expr.specs.Declaring.{NamedType, names_among, types_among}
+use Rattle.c_expr.specs.Declaring.{TypedMembers}
 use Rattle.c_expr.specs.Environments.{with_name, with_compound, with_enumeration, with_structure}
 
 abbrev pub is_union : CompoundWord → Bool
@@ -84,9 +84,27 @@ abbrev pub compound_place : Pos → Option Tag → Pos
 compound_place at None = at
 compound_place at (Some tag) = tag.pos
 
--- the type with these members, behind the body
-abbrev pub compound_completed : Bool → Option Tag → Pos → CType → List NamedType → Env → Answer CType
+-- behind the body, at this place
+abbrev pub body_ended : Bool → Pos → CType → TypedMembers → Env → Answer (Unit {0})
+body_ended union at type members env =
+    and_then (settle at env (content_rule union members.names type env.structures)) (λ new env.
+    and_then (settle at env (body_rule union members.names members.types env.structures))
+    (λ structure env. Gives tt (with_structure (number_in type) structure env)))
+
+-- the type with these members
+abbrev pub compound_completed : Bool → Option Tag → Pos → CType → TypedMembers → Env → Answer CType
 compound_completed union tag at type members env =
-    and_then (settle (compound_place at tag) env
-    (body_rule union (names_among members) (types_among members) env.structures))
-    (λ structure env. Gives type (tag_completed tag type (with_structure (number_in type) structure env)))
+    and_then (body_ended union (compound_place at tag) type members env)
+    (λ done env. Gives type (tag_completed tag type env))
+
+-- ---- a structure or union, and an enumeration, with a body: `members` and `enumerators` are what its parts answer
+
+abbrev pub compound_with : Bool → Pos → Option Tag → (Env → Answer TypedMembers) → Env → Answer CType
+compound_with union at tag members env =
+    and_then (compound_begun union tag env) (λ type env.
+    and_then (members env) (λ all env. compound_completed union tag at type all env))
+
+abbrev pub enumeration_with : Option Tag → (Env → Answer (Unit {0})) → Env → Answer CType
+enumeration_with tag enumerators env =
+    and_then (enumeration_begun tag env) (λ type env.
+    and_then (enumerators env) (λ last env. Gives type (tag_completed tag type env)))

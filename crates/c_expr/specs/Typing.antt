@@ -2,7 +2,7 @@
 -- through them. The walk knows no constraint: which type a node has, and what it breaks, is for its rule to say.
 --
 -- A rule that needs nothing of a node's parts comes before them, any other behind them.
-use Rattle.std.specs.Prelude.{ℕ, ◌+◌, ℤ, Bool, true, false, List, [], ◌∷◌, ◌++◌, Option, Some, None}
+use Rattle.std.specs.Prelude.{ℕ, ◌+◌, ℤ, Bool, true, false, ◌&&◌, List, [], ◌∷◌, ◌++◌, Option, Some, None}
 use Rattle.critical_table.specs.declared.pos.Pos.{Pos}
 use Rattle.c_types.specs.CType.{CType, CTypes, Nil}
 use Rattle.c_core.specs.Constant.{constant_of}
@@ -12,13 +12,12 @@ use Rattle.c_syntax.specs.Tree.{Expr, Exprs, Maybe, TypeName, Specifier, Specifi
 use Rattle.c_syntax.specs.Tree.{Declarators, Enumerators, Declarator, Parameter, Parameters}
 use Rattle.c_syntax.specs.Tree as tree
 use Rattle.c_scopes.specs.Env.{Env}
-use Rattle.c_scopes.specs.Scopes.{found, found_here}
+use Rattle.c_scopes.specs.Scopes.{found}
 use Rattle.c_conversions.specs.Parts.{Part}
 use Rattle.c_type_rules.specs.Arrays.{length_rule}
-use Rattle.c_type_rules.specs.Enumerators.{given_value_rule, enumerator_rule, enumerator, first_value, next_value}
+use Rattle.c_type_rules.specs.Enumerators.{given_value_rule, first_value, next_value}
 use Rattle.c_type_rules.specs.Members.{member_rule, no_member_rule}
-use Rattle.c_type_rules.specs.Qualified.{restrict_rule}
-use Rattle.c_type_rules.specs.Settings.{storage_rule, inline_rule}
+use Rattle.c_type_rules.specs.Qualified.{quals_of_words}
 use Rattle.c_type_rules.specs.declared.context.Context.{Context}
 use Rattle.c_type_rules.specs.declared.context.Setting.TheVariants as setting
 use Rattle.c_expr_rules.specs.Assignment.{postfix_rule}
@@ -28,16 +27,17 @@ use Rattle.c_expr_rules.specs.Members.{dot_rule, arrow_rule}
 use Rattle.c_expr_rules.specs.Pointers.{index_rule}
 use Rattle.c_expr_rules.specs.Primary.{literal_rule, name_rule}
 use Rattle.c_expr.specs.Answers.{Answer, Gives, and_then, settle}
-use Rattle.c_expr.specs.Declaring.{ToPointer, Derived, Around, of_derivations, is_alone, parameter_of, and_type}
-use Rattle.c_expr.specs.Declaring.{plain_derived, array_derived, function_derived, NamedType, names_among, name_or_none}
-use Rattle.c_expr.specs.Environments.{scope_entered, scope_left, with_name}
+use Rattle.c_expr.specs.declared.derivations.Around.{Around}
+use Rattle.c_expr.specs.Declaring.{ToPointer, Derived, of_derivations, own_around, no_ellipsis, is_alone, parameter_of}
+use Rattle.c_expr.specs.Declaring.{and_type, plain_derived, array_derived, function_derived, is_first, TypedMembers}
+use Rattle.c_expr.specs.Declaring.{no_members, with_member, name_or_none, enumerator_bound}
+use Rattle.c_expr.specs.Environments.{scope_entered, scope_left}
 use Rattle.c_expr.specs.Operands.{constant_rule, units_among, callee_parameters, callee_varies, behind_first}
 use Rattle.c_expr.specs.Operands.{measure_rule, is_decrement}
-use Rattle.c_expr.specs.Outlines.{Outline, Before, nothing, outline, of_type, of_specifiers, basic_on, typedef_rule}
-use Rattle.c_expr.specs.Outlines.{bare_context}
-use Rattle.c_expr.specs.Shapes.{place_of, name_in, own_place, first_place, names_something, start}
-use Rattle.c_expr.specs.Tagging.{is_union, tagged_compound, tagged_enumeration, compound_begun, compound_completed}
-use Rattle.c_expr.specs.Tagging.{enumeration_begun, tag_completed}
+use Rattle.c_expr.specs.Outlines.{Outline, Before, nothing, outline, of_specifiers, storage_on, qualifier_on}
+use Rattle.c_expr.specs.Outlines.{inline_on, basic_on, type_on, typedef_rule, bare_context}
+use Rattle.c_expr.specs.Shapes.{place_of, name_in, place_in, own_place, first_place, names_something, start}
+use Rattle.c_expr.specs.Tagging.{is_union, tagged_compound, tagged_enumeration, compound_with, enumeration_with}
 use Rattle.c_expr.specs.Uses.{as_used, as_value, as_test, as_argument, cast_to, prefixed, combined}
 
 unfoldable mutual
@@ -91,8 +91,8 @@ unfoldable mutual
   named around (tree.NamedType specifiers declarator) env =
       and_then (of_specifiers specifiers
       (each_specified (bare_context setting.TypeName) (outline specifiers env) specifiers nothing env)) (λ base env.
-      of_derivations (name_in declarator) (record { at = around; may_vary = false }) base
-      (derived (own_place declarator around) declarator env))
+      of_derivations (place_in (name_in declarator)) around base
+      (derived (own_around declarator (no_ellipsis around)) declarator env))
 
   -- ---- 6.7.2, 6.7.3: specifiers, in the order of their tokens
 
@@ -104,38 +104,28 @@ unfoldable mutual
 
   pub one_specified : Context → Outline → Specifier → Before → Env → Answer Before
   one_specified context whole (tree.StorageClass at word) before env =
-      and_then (settle at env (storage_rule context.setting before.storage word)) (λ stands env.
-      Gives (record before { storage = true }) env)
-  one_specified context whole (tree.TypeQualifier at word) before env =
-      and_then (settle at env (restrict_rule whole.typedef word)) (λ stands env. Gives before env)
-  one_specified context whole (tree.Inline at) before env =
-      and_then (settle at env (inline_rule context whole.static)) (λ stands env. Gives before env)
+      storage_on context.setting before at word env
+  one_specified context whole (tree.TypeQualifier at word) before env = qualifier_on whole before at word env
+  one_specified context whole (tree.Inline at) before env = inline_on context whole before at env
   one_specified context whole (tree.BasicType at word) before env = basic_on at whole before.basic before env
   one_specified context whole (tree.CompoundTag at word tag) before env =
-      and_then (tagged_compound (is_union word) tag context.alone env) (λ type env.
-      Gives (of_type before type) env)
+      type_on before (tagged_compound (is_union word) tag context.alone env)
   one_specified context whole (tree.Compound at word tag members) before env =
-      and_then (compound_begun (is_union word) tag env) (λ type env.
-      and_then (members_typed members [] env) (λ all env.
-      and_then (compound_completed (is_union word) tag at type all env) (λ type env.
-      Gives (of_type before type) env)))
-  one_specified context whole (tree.EnumTag at tag) before env =
-      and_then (tagged_enumeration tag env) (λ type env. Gives (of_type before type) env)
+      type_on before (compound_with (is_union word) at tag (λ env. members_typed members no_members env) env)
+  one_specified context whole (tree.EnumTag at tag) before env = type_on before (tagged_enumeration tag env)
   one_specified context whole (tree.Enum at tag enumerators comma) before env =
-      and_then (enumeration_begun tag env) (λ type env.
-      and_then (enumerated enumerators first_value env) (λ last env.
-      Gives (of_type before type) (tag_completed tag type env)))
+      type_on before (enumeration_with tag (λ env. enumerated enumerators first_value env) env)
   one_specified context whole (tree.TypedefName at x) before env =
-      and_then (settle at env (typedef_rule whole.typedef)) (λ type env. Gives (of_type before type) env)
+      type_on before (settle at env (typedef_rule whole.typedef))
 
   -- ---- 6.7.2.1: members behind others
 
-  pub members_typed : Members → List NamedType → Env → Answer (List NamedType)
+  pub members_typed : Members → TypedMembers → Env → Answer TypedMembers
   members_typed tree.NoMember earlier env = Gives earlier env
   members_typed (tree.MoreMembers first rest) earlier env =
       and_then (member_typed first earlier env) (λ more env. members_typed rest more env)
 
-  pub member_typed : MemberDeclaration → List NamedType → Env → Answer (List NamedType)
+  pub member_typed : MemberDeclaration → TypedMembers → Env → Answer TypedMembers
   member_typed (tree.Declares specifiers tree.NoDeclarator) earlier env =
       and_then (settle (first_place specifiers) env (no_member_rule (names_something specifiers))) (λ none env.
       Gives earlier env)
@@ -144,14 +134,14 @@ unfoldable mutual
       (each_specified (bare_context setting.Member) (outline specifiers env) specifiers nothing env)) (λ base env.
       each_member (tree.MoreDeclarators first rest) base earlier env)
 
-  pub each_member : Declarators → CType → List NamedType → Env → Answer (List NamedType)
+  pub each_member : Declarators → CType → TypedMembers → Env → Answer TypedMembers
   each_member tree.NoDeclarator base earlier env = Gives earlier env
   each_member (tree.MoreDeclarators first rest) base earlier env =
-      and_then (of_derivations (name_in first) (record { at = start; may_vary = false }) base
-      (derived (own_place first start) first env)) (λ type env.
+      and_then (of_derivations (place_in (name_in first)) start base
+      (derived (own_around first (no_ellipsis start)) first env)) (λ type env.
       and_then (settle (own_place first start) env
-      (member_rule env.structures (names_among earlier) (name_or_none (name_in first)) type)) (λ stands env.
-      each_member rest base (earlier ++ record { name = name_or_none (name_in first); type = type } ∷ []) env))
+      (member_rule env.structures earlier.names (name_or_none (name_in first)) type)) (λ stands env.
+      each_member rest base (with_member earlier (name_or_none (name_in first)) type) env))
 
   -- ---- 6.7.2.2: enumerators from a value on, each in scope behind its own value (6.2.1p7)
 
@@ -159,8 +149,7 @@ unfoldable mutual
   enumerated tree.NoEnumerator next env = Gives tt env
   enumerated (tree.MoreEnumerators (tree.Enumerates at x given) rest) next env =
       and_then (enumerator_value given next env) (λ value env.
-      and_then (settle at env (enumerator_rule (found_here env.scopes false x) value)) (λ n env.
-      enumerated rest (next_value n) (with_name x (enumerator n) env)))
+      and_then (enumerator_bound at x value env) (λ n env. enumerated rest (next_value n) env))
 
   pub enumerator_value : Maybe → ℤ → Env → Answer (Option ℤ)
   enumerator_value tree.Without next env = Gives (Some next) env
@@ -171,19 +160,20 @@ unfoldable mutual
   -- ---- 6.7.6
 
   -- the parts of a declarator in the order of their tokens; its derivations from the name outwards
-  pub derived : Pos → Declarator → Env → Answer (List Derived)
-  derived at tree.Omitted env = Gives [] env
-  derived at (tree.Name pos x) env = Gives [] env
-  derived at (tree.DParen inner) env = derived at inner env
-  derived at (tree.PointerTo qualifiers inner) env =
-      and_then (derived at inner env) (λ all env. Gives (all ++ plain_derived (ToPointer qualifiers) ∷ []) env)
-  derived at (tree.ArrayOf inner length) env =
-      and_then (derived at inner env) (λ all env.
+  pub derived : Around → Declarator → Env → Answer (List Derived)
+  derived around tree.Omitted env = Gives [] env
+  derived around (tree.Name pos x) env = Gives [] env
+  derived around (tree.DParen inner) env = derived around inner env
+  derived around (tree.PointerTo qualifiers inner) env =
+      and_then (derived around inner env) (λ all env.
+      Gives (all ++ plain_derived (ToPointer (quals_of_words qualifiers)) ∷ []) env)
+  derived around (tree.ArrayOf inner length) env =
+      and_then (derived around inner env) (λ all env.
       and_then (array_length length env) (λ n env. Gives (all ++ array_derived length n ∷ []) env))
-  derived at (tree.FunctionOf inner parameters variadic) env =
-      and_then (derived at inner env) (λ all env.
-      and_then (parameters_typed at (is_alone parameters variadic) parameters 0 (scope_entered env)) (λ types env.
-      Gives (all ++ function_derived types variadic env ∷ []) (scope_left env)))
+  derived around (tree.FunctionOf inner parameters variadic) env =
+      and_then (derived around inner env) (λ all env.
+      and_then (parameters_typed around.at (is_alone parameters variadic) parameters 0 (scope_entered env)) (λ types env.
+      Gives (all ++ function_derived types variadic (around.may_vary && is_first all) env ∷ []) (scope_left env)))
 
   pub array_length : Maybe → Env → Answer (Option ℕ)
   array_length tree.Without env = Gives None env
@@ -205,8 +195,8 @@ unfoldable mutual
       and_then (of_specifiers specifiers
       (each_specified (bare_context setting.Parameter) (outline specifiers env) specifiers nothing env))
       (λ base env.
-      and_then (of_derivations (name_in declarator) (record { at = around; may_vary = false }) base
-      (derived (own_place declarator around) declarator env)) (λ type env.
+      and_then (of_derivations (place_in (name_in declarator)) around base
+      (derived (own_around declarator (no_ellipsis around)) declarator env)) (λ type env.
       parameter_of alone specifiers declarator number type env))
 
 -- ---- what other crates ask
@@ -223,4 +213,4 @@ specified context all env =
 -- what a declarator makes of a type
 abbrev pub declared : Around → Declarator → CType → Env → Answer CType
 declared around declarator base env =
-    of_derivations (name_in declarator) around base (derived (own_place declarator around.at) declarator env)
+    of_derivations (place_in (name_in declarator)) around.at base (derived (own_around declarator around) declarator env)

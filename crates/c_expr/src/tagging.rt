@@ -206,3 +206,46 @@ pub fn tagged_enumerators(
         },
     }
 }
+
+/// A structure or union where its body begins, with its tag or without one (6.2.1p7, 6.7.2.3p1).
+///
+/// Constraint 6 for the tag of another kind, and for a second body.
+pub fn begun_compound(
+    scopes: &mut Scopes,
+    types: &mut TypeTable,
+    is_union: bool,
+    tag: &Option<Tag>,
+) -> Result<TypeId, TypeFault>
+    requires { ScopesIn types.old scopes.old }
+    ensures { AnswersType (spec.compound_begun is_union tag.now (env_of scopes.old types.old)) types.old scopes.new
+        types.new result }
+{
+    match tag {
+        Some(tag) => tagged_body(scopes, types, is_union, tag),
+        None => match new_compound(scopes, types, is_union) {
+            Ok(of) => Ok(of),
+            Err(cause) => Err(TypeFault::Memory(cause)),
+        },
+    }
+}
+
+/// An enumeration where its body begins, with its tag or without one (6.2.1p7, 6.7.2.3p1).
+///
+/// Constraint 6 where the tag stands for something in the innermost scope.
+pub fn begun_enumeration(
+    scopes: &mut Scopes,
+    types: &mut TypeTable,
+    tag: &Option<Tag>,
+) -> Result<TypeId, TypeFault>
+    requires { ScopesIn types.old scopes.old }
+    ensures { AnswersType (spec.enumeration_begun tag.now (env_of scopes.old types.old)) types.old scopes.new types.new
+        result }
+{
+    match tag {
+        Some(tag) => tagged_enumerators(scopes, types, tag),
+        None => match new_enumeration(scopes, types) {
+            Ok(of) => Ok(of),
+            Err(cause) => Err(TypeFault::Memory(cause)),
+        },
+    }
+}

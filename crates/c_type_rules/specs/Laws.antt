@@ -8,7 +8,7 @@ use Rattle.c_scopes.specs.Ruled.{Rises}
 use Rattle.c_type_rules.specs.Arrays.{array_demands}
 use Rattle.c_type_rules.specs.Enumerators.{enumerator_demands}
 use Rattle.c_type_rules.specs.Functions.{function_demands}
-use Rattle.c_type_rules.specs.Members.{member_demands, no_member_demands}
+use Rattle.c_type_rules.specs.Members.{member_demands, no_member_demands, content_demands}
 use Rattle.c_type_rules.specs.Settings.{storage_demands}
 use Rattle.c_type_rules.specs.Tags.{enumerated_demands}
 
@@ -23,3 +23,5 @@ pub record AllRise : Type 0 where
   pub member : (structures : List Structure) (given : Bool) (type : CType)
       → Rises (member_demands structures given type)
   pub no_member : (declares : Bool) → Rises (no_member_demands declares)
+  pub content : (is_union : Bool) (names : List (List ℕ)) (type : CType) (structures : List Structure)
+      → Rises (content_demands is_union names type structures)

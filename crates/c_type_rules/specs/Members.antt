@@ -1,5 +1,5 @@
 -- Members, and structures and unions that get them (6.7.2.1).
-use Rattle.std.specs.Prelude.{ℕ, Bool, false, not, ◌&&◌, ◌||◌, nat_le, List, [], ◌∷◌, Option, Some, None}
+use Rattle.std.specs.Prelude.{ℕ, Bool, true, false, not, ◌&&◌, ◌||◌, nat_le, List, [], ◌∷◌, Option, Some, None}
 use Rattle.std.specs.Str.{bytes_eq}
 use Rattle.c_types.specs.declared.layout.Layout.{Layout}
 use Rattle.c_types.specs.CType.{CType}
@@ -8,7 +8,8 @@ use Rattle.c_types.specs.Layouts.{layouts_in, size_with, largest}
 use Rattle.c_types.specs.Structures.{Structure}
 use Rattle.c_scopes.specs.Ruled.{Ruled, Breaks, Demand, ruled}
 use Rattle.c_conversions.specs.Versions.{is_function}
-use Rattle.c_type_rules.specs.Arrays.{is_no_incomplete, is_without_length}
+use Rattle.c_type_rules.specs.Arrays.{is_complete, is_no_incomplete, is_without_length}
+use Rattle.c_type_rules.specs.Tags.{is_compound}
 
 -- the name is one of these
 abbrev pub is_among : List ℕ → List (List ℕ) → Bool
@@ -35,6 +36,19 @@ no_member_demands declares = (3, declares) ∷ (11, false) ∷ []
 
 abbrev pub no_member_rule : Bool → Ruled (Unit {0})
 no_member_rule declares = ruled (no_member_demands declares) tt
+
+abbrev pub has_some : List (List ℕ) → Bool
+has_some [] = false
+has_some (first ∷ rest) = true
+
+-- Where a body ends: the grammar has at least one member in it (6.7.2.1p1), and its type is a structure or a union as
+-- its word says, whose content was not defined before (6.7.2.3p1).
+abbrev pub content_demands : Bool → List (List ℕ) → CType → List Structure → List Demand
+content_demands is_union names type structures =
+    (1, has_some names) ∷ (6, is_compound is_union type structures && not (is_complete type structures)) ∷ []
+
+abbrev pub content_rule : Bool → List (List ℕ) → CType → List Structure → Ruled (Unit {0})
+content_rule is_union names type structures = ruled (content_demands is_union names type structures) tt
 
 abbrev pub body_demands : Bool → List Layout → List Demand
 body_demands is_union layouts = (8, nat_le (size_with is_union layouts) largest) ∷ []

@@ -17,7 +17,7 @@ pub use context::{Context, Setting};
 pub use enumerators::{enumerator, given_value};
 pub use functions::{ParameterList, function_type, parameter_type};
 pub use law::order_law;
-pub use members::{MemberList, NamedType, complete, no_member};
+pub use members::{EndedBody, MemberList, NamedType, complete, content, no_member};
 pub use qualified::{pointer_type, qualifiers, restrict};
 pub use settings::{inline_word, storage_word};
 pub use tags::{compound_body, compound_tag, enumerated_body, enumerated_tag};

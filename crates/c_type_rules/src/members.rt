@@ -1,6 +1,6 @@
 //! Members, and structures and unions that get them.
 
-ghost use Rattle.std.specs.Prelude.{◌≡◌, ◌<◌, ◌++◌, ◌∷◌, [], All, length, OnOk};
+ghost use Rattle.std.specs.Prelude.{◌≡◌, ◌<◌, ◌++◌, ◌∷◌, [], All, length, not, OnOk};
 ghost use Rattle.c_types.specs.declared.shape.TypeId.{TypeId};
 ghost use Rattle.c_types.specs.CType.{type_of};
 ghost use Rattle.c_types.specs.Structures.{IsIncomplete, structures_of};
@@ -10,6 +10,7 @@ ghost use Rattle.c_type_rules.specs.Members as spec;
 ghost use Rattle.c_type_rules.specs.Completing.{RulesBody};
 
 use crate::arrays::is_without_length;
+use crate::tags::is_compound;
 use c_conversions::versions::is_function;
 use c_core::TypeFault;
 use c_types::{BuildFault, LayoutFault, TypeId, TypeTable};
@@ -58,6 +59,12 @@ impl MemberList {
             types: Vec::new(alloc),
             given: BTreeSet::new(alloc),
         }
+    }
+
+    fn is_empty(&self) -> bool
+        ensures { result ≡ not (spec.has_some self.now.names) }
+    {
+        self.names.is_empty()
     }
 
     // The name is that of a member.
@@ -137,6 +144,32 @@ pub fn no_member(pos: Pos, declares: bool) -> Result<(), TypeFault>
         return Err(TypeFault::Constraint(11, pos));
     }
     Err(TypeFault::Constraint(3, pos))
+}
+
+/// A structure or union whose body ends.
+#[derive(Clone, Copy, Debug, PartialEq, Eq)]
+pub struct EndedBody {
+    /// Where its constraints are told.
+    pub at: Pos,
+    pub is_union: bool,
+    pub of: TypeId,
+}
+
+/// The body of a structure or union may end (6.7.2.1p1, 6.7.2.3p1).
+///
+/// Constraint 1 where it has no member, 6 where the type is of another kind or has got its members before.
+pub fn content(types: &TypeTable, body: EndedBody, members: &MemberList) -> Result<(), TypeFault>
+    requires { body.of.0 < count_of types.now }
+    ensures { Settles (spec.content_rule body.is_union members.now.names (type_of types.now body.of)
+        (structures_of types.now)) body.at result }
+{
+    if members.is_empty() {
+        return Err(TypeFault::Constraint(1, body.at));
+    }
+    if is_compound(types, body.is_union, body.of) && types.layout(body.of).is_none() {
+        return Ok(());
+    }
+    Err(TypeFault::Constraint(6, body.at))
 }
 
 /// A structure or union gets its members (6.7.2.1p15 to p17).

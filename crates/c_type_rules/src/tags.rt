@@ -15,7 +15,7 @@ use c_types::{Shape, TypeId, TypeTable};
 use critical_table::Pos;
 
 // The type is a union, or a structure.
-fn is_compound(types: &TypeTable, is_union: bool, id: TypeId) -> bool
+pub(crate) fn is_compound(types: &TypeTable, is_union: bool, id: TypeId) -> bool
     requires { id.0 < count_of types.now }
     ensures { result ≡ spec.is_compound is_union (type_of types.now id) (structures_of types.now) }
 {

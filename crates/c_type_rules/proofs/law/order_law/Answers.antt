@@ -18,4 +18,5 @@ returns c = record {
   enumerator = λ here value. ((lit< tt, tt), (tt, tt));
   member = λ structures given type. ((lit< tt, (lit< tt, tt)), ((lit< tt, tt), (tt, tt)));
   no_member = λ declares. ((lit< tt, tt), (tt, tt));
+  content = λ is_union names type structures. ((lit< tt, tt), (tt, tt));
 }
