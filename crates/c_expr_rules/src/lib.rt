@@ -14,3 +14,6 @@ pub mod unary;
 pub mod uses;
 
 pub use law::rising_law;
+
+#[cfg(test)]
+mod tests;

@@ -11,3 +11,6 @@ pub mod law;
 pub mod steps;
 
 pub use law::rising_law;
+
+#[cfg(test)]
+mod tests;

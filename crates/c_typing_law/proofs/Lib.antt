@@ -14,3 +14,5 @@ pub mod Compared
 pub mod Composed
 pub mod Chosen
 pub mod Stored
+pub mod Made
+pub mod Stays

@@ -2,3 +2,4 @@
 pub mod WellFormed
 pub mod TypedParts
 pub mod Law
+pub mod TypesLaw
