@@ -72,6 +72,11 @@ three_ways true b c h = inl refl
 three_ways false true c h = inr (inl refl)
 three_ways false false c h = inr (inr h)
 
+pub first_of_three_ways : (a b c : Bool) → (a || b || c) ≡ true → b ≡ false → c ≡ false → a ≡ true
+first_of_three_ways true b c h f1 f2 = refl
+first_of_three_ways false true c h f1 f2 = cc
+first_of_three_ways false false c h f1 f2 = cc
+
 pub last_two : (a b c d : Bool) → (a || b || c || d) ≡ true → a ≡ false → b ≡ false → (c ≡ true) ⊎ (d ≡ true)
 last_two true b c d h f1 f2 = cc
 last_two false true c d h f1 f2 = cc
