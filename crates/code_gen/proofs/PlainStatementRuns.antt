@@ -81,8 +81,10 @@ module _ (program : Program) (table : List Through) (call : Call) where
         (items_from program call it.frame.result items 0) here at size answered s t.0
         (stand_front it.code it.function at a b both) behind
         (λ made s1 are.
-        items_runs (blocks.block_of it names flow around inside locals made answered are t.0) (names_in_block locals names)
-        flow inner (blocks.inside_block it names flow around inside locals made answered are t.0) items t.1 plain (at + n)
+        items_runs (blocks.block_of it names flow around inside locals made answered are t.0) (names_in_block
+        locals names)
+        flow inner (blocks.inside_block it names flow around inside locals made answered are t.0) items t.1 plain
+        (at + n)
         text (stand_back it.code it.function at n a b long_a both) literals answered s1))
     action_runs it names flow around inside here (unit.Zero slot size) t plain at text stands literals answered s =
         stores.zero_runs program table call it names flow around inside slot size at here answered s t stands
@@ -94,11 +96,13 @@ module _ (program : Program) (table : List Through) (call : Call) where
         literals answered s =
         stores.bytes_runs program table call it names flow around inside slot byte text at bytes here answered s t.2
         literals.0 stands
-    action_runs it names flow around inside here (unit.SealBytes slot byte len) t plain at text stands literals answered s =
+    action_runs it names flow around inside here (unit.SealBytes slot byte len)
+        t plain at text stands literals answered s =
         actions.seal_runs program table call it names flow around inside slot byte len here at answered s t.1 stands
     action_runs it names flow around inside here (unit.Evaluate core) t plain at text stands literals answered s =
         actions.done_runs program table call it names flow around inside core here at answered s t.0 t.1 plain stands
-    action_runs it names flow around inside here (unit.If test first second) t plain at text stands literals answered s =
+    action_runs it names flow around inside here (unit.If test first second)
+        t plain at text stands literals answered s =
         let l : ℕ = full_size test in
         let m : ℕ = size_of around first in
         let r : ℕ = size_of around second in
@@ -146,9 +150,12 @@ module _ (program : Program) (table : List Through) (call : Call) where
         actions.to_there program table call it names flow around inside _ _ (to + r) next second_end
         (statement_runs it names flow around inside second t.3 plain.2 to (text + length (texts_in first)) last
         (pieces_of.texts_back it.code text (texts_in first) (texts_in second) literals) answered1 s1))
-    action_runs it names flow around inside here (unit.While test body) t plain at text stands literals answered s = absurd plain
-    action_runs it names flow around inside here (unit.Do body test) t plain at text stands literals answered s = absurd plain
-    action_runs it names flow around inside here (unit.For test step body) t plain at text stands literals answered s = absurd
+    action_runs it names flow around inside here (unit.While test body)
+        t plain at text stands literals answered s = absurd plain
+    action_runs it names flow around inside here (unit.Do body test)
+        t plain at text stands literals answered s = absurd plain
+    action_runs it names flow around inside here (unit.For test step body)
+        t plain at text stands literals answered s = absurd
         plain
     action_runs it names flow around inside here (unit.Switch core locals items cases default) t plain at text stands
         literals answered s =
@@ -162,7 +169,8 @@ module _ (program : Program) (table : List Through) (call : Call) where
     action_runs it names flow around inside here (unit.ReturnValue core) t plain at text stands literals answered s =
         actions.return_value_runs program table call it names flow around inside core here at _ answered s t.0 t.1 plain
         stands
-    action_runs it names flow around inside here (unit.ReturnWhole size core) t plain at text stands literals answered s =
+    action_runs it names flow around inside here (unit.ReturnWhole size core)
+        t plain at text stands literals answered s =
         stores.return_whole_runs program table call it names flow around inside size core here at _ answered s t.1 t.2
         t.3 plain stands
 

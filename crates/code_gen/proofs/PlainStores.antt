@@ -215,7 +215,8 @@ module _ (program : Program) (table : List Through) (call : Call) (it : Running)
       → LieIn names.objects slot byte (length bytes) → slice_get it.code.texts text ≡ Some bytes
       → StandsAt at (on position (i.Slot slot ∷ i.Member byte ∷ i.Pool text ∷ []))
       → Goes (here [] answered at [] s)
-      (then_next (stored 1 (record { place = member_place byte (place slot); bytes = known bytes }) position s)) (at + 3)
+      (then_next (stored 1 (record { place = member_place byte (place slot); bytes = known bytes }) position s))
+      (at + 3)
   bytes_runs slot byte text at bytes position answered s lies is stands =
       let q : Pointer = member_place byte (place slot) in
       let x : Evaluation (Unit {0}) = stored 1 (record { place = q; bytes = known bytes }) position s in
