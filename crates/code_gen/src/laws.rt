@@ -11,10 +11,10 @@ pub fn end_law()
     ensures { EachJournalEnds }
 {}
 
-/// The journal of each run is lawful: of each well-typed unit, over every library that keeps its laws, for each input of
-/// bytes and all budgets of at most 2,000,000,000 ticks. Whoever replays it, knowing nothing of C, finds each store in a live object and on bytes without a
-/// mark, each trap to be the case of its access, and each violated runtime-constraint with its action, its one call of
-/// the current handler and its failure value.
+/// The journal of each run is lawful: of each well-typed unit, over every library that keeps its laws, for each input
+/// of bytes and all budgets of at most 2,000,000,000 ticks. Whoever replays it, knowing nothing of C, finds each store
+/// in a live object and on bytes without a mark, each trap to be the case of its access, and each violated
+/// runtime-constraint with its action, its one call of the current handler and its failure value.
 pub fn journal_law()
     ensures { EachJournalIsLawful }
 {}
@@ -26,8 +26,8 @@ pub fn size_law()
 {}
 
 /// Automatic objects are a stack: the last that was made is the first that dies. So each lives until its turn comes,
-/// and the mark of a const object is set on one that lives: the tests of both, by which the meaning goes on as if nothing
-/// were to do, never matter. It holds of each well-typed unit over every library that keeps its laws.
+/// and the mark of a const object is set on one that lives: the tests of both, by which the meaning goes on as if
+/// nothing were to do, never matter. It holds of each well-typed unit over every library that keeps its laws.
 pub fn lifetime_law()
     ensures { AutomaticObjectsAreAStack }
 {}
@@ -42,9 +42,10 @@ pub fn run_law()
 
 /// The machine does what a statement means: where the code of the statement stands, the run comes to where the program
 /// goes on, to the next statement, out of a loop or switch, to the next turn or to the caller, in the state that the
-/// meaning gives once a jump has let the objects die that it leaves; or it ends as the meaning stops. So far of each
-/// well-typed block, expression statement, `if`, `break`, `continue`, `return` without a value or with a scalar, and mark
-/// of a const object, without calls.
+/// meaning gives once a jump has let the objects die that it leaves; or it ends as the meaning stops. The literals that
+/// initialize arrays are to stand among the texts of the code, and the objects that are named to have sizes. So far of
+/// each well-typed block, initializer, expression statement, `if`, `break`, `continue`, `return`, and mark of a const
+/// object, without calls.
 pub fn statement_run_law()
     ensures { EachPlainStatementRuns }
 {}
