@@ -17,6 +17,7 @@ pub mod LivingHeld
 pub mod LivingLaw
 pub mod Lengths
 pub mod Going
+pub mod TicksLeft
 pub mod PlainParts
 pub mod PlainStretches
 pub mod PlainActs
@@ -32,6 +33,9 @@ pub mod PlainStatements
 pub mod PlainActions
 pub mod PlainStores
 pub mod PlainBlocks
+pub mod PlainLoops
+pub mod SwitchCases
+pub mod PlainSwitches
 pub mod PlainStatementRuns
 pub mod Sizes
 pub mod Trees

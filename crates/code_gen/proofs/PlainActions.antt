@@ -1,7 +1,7 @@
 -- What statements of one kind do, where their parts do what these mean.
 use Rattle.std.proofs.Common.{◌≡◌, ◌∙◌, ℕ, ◌+◌, ◌≤◌, Bool, true, false, cond, List, [], ◌∷◌, ◌++◌, refl, ap, sym}
 use Rattle.std.proofs.Common.{subst, arith, Option, Some, None}
-use Rattle.std.specs.Prelude.{not, nat_le, IsSomeAnd}
+use Rattle.std.specs.Prelude.{ℤ, not, nat_le, IsSomeAnd}
 use Rattle.std.proofs.lemmas.Bool.{le-leb}
 use Rattle.acc_num.specs.Operations.{is_zero}
 use Rattle.critical_table.specs.declared.pos.Pos.{Pos}
@@ -46,9 +46,11 @@ use Rattle.code_gen.proofs.Going.{comes_on, comes_same, one_step, stand_front, s
 use Rattle.code_gen.proofs.Going.{reaches_gives, reaches_bind, reaches_on}
 use Rattle.code_gen.proofs.FullExpressions as whole
 use Rattle.code_gen.proofs.Lengths.{code_long}
+use Rattle.code_gen.proofs.PlainParts.{IsLeftAs, number_left}
 use Rattle.code_gen.proofs.PlainRuns as plain_runs
 use Rattle.code_gen.proofs.PlainStatements as parts
 use Rattle.code_gen.proofs.PlainStretches as stretch
+use Rattle.code_gen.proofs.TicksLeft.{reaches_within}
 
 -- ---- forms
 
@@ -67,6 +69,10 @@ returned_form None f is = absurd is
 returned_form (Some (content.Scalar (scalar.Number kind))) f is = (sym is, subst IsLeft (sym is) tt)
 returned_form (Some (content.Scalar scalar.Pointer)) f is = (sym is, subst IsLeft (sym is) tt)
 returned_form (Some (content.Whole size)) f is = absurd is
+
+-- a value that is a number
+abbrev pub IsNumeric : Value → Type 0
+IsNumeric v = (n : ℤ) × (v ≡ Num n)
 
 module _ (program : Program) (table : List Through) (call : Call) (it : Running) (names : Names) (flow : FlowTyped)
     (around : Around) (inside : Inside it names flow around) where
@@ -111,23 +117,57 @@ module _ (program : Program) (table : List Through) (call : Call) (it : Running)
       )
 
   -- an expression that is evaluated for what it does
-  pub done_runs : (core : Core) (position : Pos) (at : ℕ) (answered : Bool) (s : State) → form_of core ≡ form.Nothing
-      → CoreTyped names core → IsPlain core → StandsAt at (full_code program table position at around core)
-      → Goes (here [] answered at [] s) (then_next (done program call core it.frame.held s)) (at + full_size core)
-  done_runs core position at answered s nothing t plain stands =
+  pub effect_runs : (core : Core) (position : Pos) (at : ℕ) (answered : Bool) (s : State)
+      → form_of core ≡ form.Nothing → CoreTyped names core → IsPlain core
+      → StandsAt at (full_code program table position at around core)
+      → Reaches e code (here [] answered at [] s) (done program call core it.frame.held s) (λ u. Bool)
+      (λ u answered1 s1. here [] answered1 (at + full_size core) [] s1)
+  effect_runs core position at answered s nothing t plain stands =
       let both = deaths core position at stands in
       let mid : ℕ = at + code_sizes.size_in core in
       let same : mid + objects_in core ≡ at + full_size core = omega arith in
-      reaches_bind e code _ (done program call core it.frame.held s) _ (λ u. Bool × Unit {0})
-      (whole.Leads it (mid + objects_in core) (λ u last. [])) (λ f. Bool) (leads it inside (at + full_size core))
+      reaches_on e code _ (done program call core it.frame.held s) (λ u. Bool × Unit {0})
+      (whole.Leads it (mid + objects_in core) (λ u last. [])) (λ u. Bool)
+      (λ u answered1 s1. here [] answered1 (at + full_size core) [] s1)
       (whole.full_runs it (val core) form.Nothing (λ v. Gives tt) (λ u. Unit {0}) [] (λ u last. []) at mid mid
       around.values (objects_in core) position inside.named.below
       (core_runs core form.Nothing nothing t plain at both.0)
       (λ objects answered1 v s1 has. reaches_gives e code _ tt s1 (λ u. Unit {0})
       (λ u last s2. here objects answered1 mid [] s2) tt refl)
       both.1 answered s)
-      (λ u s1 left. reaches_gives e code _ Next s1 (λ f. Bool) (leads it inside (at + full_size core)) left.0
-      (ap (λ k. here [] left.0 k [] s1) same))
+      (λ u s1 left. (left.0, comes_same e code _ _ (ap (λ k. here [] left.0 k [] s1) same)))
+
+  pub done_runs : (core : Core) (position : Pos) (at : ℕ) (answered : Bool) (s : State) → form_of core ≡ form.Nothing
+      → CoreTyped names core → IsPlain core → StandsAt at (full_code program table position at around core)
+      → Goes (here [] answered at [] s) (then_next (done program call core it.frame.held s)) (at + full_size core)
+  done_runs core position at answered s nothing t plain stands =
+      reaches_bind e code _ (done program call core it.frame.held s) _ (λ u. Bool)
+      (λ u answered1 s1. here [] answered1 (at + full_size core) [] s1) (λ f. Bool)
+      (leads it inside (at + full_size core)) (effect_runs core position at answered s nothing t plain stands)
+      (λ u s1 answered1. reaches_gives e code _ Next s1 (λ f. Bool) (leads it inside (at + full_size core)) answered1
+      refl)
+
+  -- a number, as a full expression
+  pub number_runs : (core : Core) (position : Pos) (at : ℕ) (answered : Bool) (s : State) → IsNumber (form_of core)
+      → CoreTyped names core → IsPlain core → StandsAt at (full_code program table position at around core)
+      → Reaches e code (here [] answered at [] s) (evaluated program call core it.frame.held Gives s)
+      (λ v. Bool × IsNumeric v) (λ v left s1. here [] left.0 (at + full_size core) (Num left.1.0 ∷ []) s1)
+  number_runs core position at answered s is t plain stands =
+      let both = deaths core position at stands in
+      let mid : ℕ = at + code_sizes.size_in core in
+      let same : mid + objects_in core ≡ at + full_size core = omega arith in
+      reaches_on e code _ (evaluated program call core it.frame.held Gives s) (λ v. Bool × IsNumeric v)
+      (whole.Leads it (mid + objects_in core) (λ v last. Num last.0 ∷ [])) (λ v. Bool × IsNumeric v)
+      (λ v left s1. here [] left.0 (at + full_size core) (Num left.1.0 ∷ []) s1)
+      (whole.full_runs it (val core) (form_of core) Gives IsNumeric [] (λ v last. Num last.0 ∷ []) at mid mid
+      around.values (objects_in core) position inside.named.below
+      (core_runs core (form_of core) refl t plain at both.0)
+      (λ objects answered1 v s1 has.
+      let l : (k : ℤ) × IsLeftAs (form_of core) v (Num k) = number_left (form_of core) v is has in
+      reaches_gives e code _ v s1 IsNumeric (λ w last s2. here objects answered1 mid (Num last.0 ∷ []) s2)
+      (l.0, l.1.value_is) (ap (λ ops. here objects answered1 mid ops s1) (l.1.on_top [])))
+      both.1 answered s)
+      (λ v s1 left. (left, comes_same e code _ _ (ap (λ k. here [] left.0 k (Num left.1.0 ∷ []) s1) same)))
 
   -- a jump out
   pub break_runs : (position : Pos) (at next : ℕ) (answered : Bool) (s : State)
@@ -210,12 +250,13 @@ module _ (program : Program) (table : List Through) (call : Call) (it : Running)
       by_flow (Returned v) s answered =
           (answered, comes_same e code (leads it inside next (Returned v) answered s) _ refl)
 
-  -- a test, and then one of two statements
+  -- a test, behind which no more ticks are left, and then one of two statements
   pub if_runs : (test : Core) (position : Pos) (at to next : ℕ) (answered : Bool) (s : State)
       (first second : State → Evaluation Flow) → IsNumber (form_of test) → CoreTyped names test → IsPlain test
       → StandsAt at (full_code program table position at around test)
       → StandsAt (at + full_size test) (on position (i.IfZero to ∷ []))
-      → ((answered1 : Bool) (s1 : State) → Goes (here [] answered1 (at + full_size test + 1) [] s1) (first s1) next)
+      → ((answered1 : Bool) (s1 : State) → s1.ticks ≤ s.ticks
+      → Goes (here [] answered1 (at + full_size test + 1) [] s1) (first s1) next)
       → ((answered1 : Bool) (s1 : State) → Goes (here [] answered1 to [] s1) (second s1) next)
       → Goes (here [] answered at [] s)
       (bind (tested program call test it.frame.held s) (λ is_so. branch is_so first second)) next
@@ -223,11 +264,13 @@ module _ (program : Program) (table : List Through) (call : Call) (it : Running)
       let both = deaths test position at stands in
       let mid : ℕ = at + code_sizes.size_in test in
       let same : mid + objects_in test ≡ at + full_size test = omega arith in
-      reaches_bind e code _ (tested program call test it.frame.held s) _ (λ b. Bool × whole.Tested it b)
+      reaches_within e code s.ticks (here [] answered at [] s) (tested program call test it.frame.held s) _
+      (λ b. Bool × whole.Tested it b)
       (whole.Leads it (mid + objects_in test) (λ b last. Num last.0 ∷ [])) (λ f. Bool) (leads it inside next)
+      (omega arith)
       (whole.test_runs it (val test) (form_of test) at mid around.values (objects_in test) position is
       inside.named.below (core_runs test (form_of test) refl t plain at both.0) both.1 answered s)
-      (λ b s1 left.
+      (λ b s1 left fewer.
       subst (λ c. Goes (here [] left.0 (mid + objects_in test) (Num left.1.0 ∷ []) s1) (branch c first second s1) next)
       (sym left.1.1)
       (subst (λ k. Goes (here [] left.0 k (Num left.1.0 ∷ []) s1) (branch (not (is_zero left.1.0)) first second s1)
@@ -235,7 +278,7 @@ module _ (program : Program) (table : List Through) (call : Call) (it : Running)
       (reaches_from e code _ _ (branch (not (is_zero left.1.0)) first second s1) (λ f. Bool) (leads it inside next)
       (one_step (stretch.beside it [] left.0) (at + full_size test) (Num left.1.0 ∷ []) s1 (i.IfZero to) position
       fork.0)
-      (by_zero left.0 s1 (is_zero left.1.0) (runs_first left.0 s1) (runs_second left.0 s1)))))
+      (by_zero left.0 s1 (is_zero left.1.0) (runs_first left.0 s1 fewer) (runs_second left.0 s1)))))
     where
       by_zero : (answered1 : Bool) (s1 : State) (b : Bool)
           → Goes (here [] answered1 (at + full_size test + 1) [] s1) (first s1) next

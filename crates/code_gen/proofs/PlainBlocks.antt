@@ -11,6 +11,7 @@ use Rattle.run_defs.specs.State.{State, call_left}
 use Rattle.run_defs.specs.Evaluation.{Evaluation, Gives}
 use Rattle.vm_code.specs.Calling.{returned, left_by}
 use Rattle.vm_code.specs.Slots.{Held, numbers, all_died}
+use Rattle.lib_defs.specs.declared.value.Value.{Value}
 use Rattle.lib_defs.specs.declared.value.Value.TheVariants.{Nothing}
 use Rattle.std.specs.Prelude.{unwrap_or}
 use Rattle.code_gen.specs.Blocks.{locals_made, in_block}
@@ -99,26 +100,27 @@ module _ (it : Running) (names : Names) (flow : FlowTyped) (around : Around) (in
       (parts.died_both made it.frame.held s))
 
 module _ (program : Program) (table : List Through) (call : Call) where
-  -- a block, where its items do what they mean
+  -- a block, where its items do what they mean, also with operands that they take
   pub block_runs : (it : Running) (names : Names) (flow : FlowTyped) (around : Around)
       (inside : Inside it names flow around) (locals : List Local) (items : List Held → State → Evaluation Flow)
-      (position : Pos) (at size : ℕ) (answered : Bool) (s : State) → (fresh : AreFresh flow.slots locals names.objects)
+      (position : Pos) (at size : ℕ) (answered : Bool) (operands : List Value) (s : State)
+      → (fresh : AreFresh flow.slots locals names.objects)
       → StandAt it.code it.function at (on position (makes locals))
       → StandAt it.code it.function (at + length locals + size) (on position (kills_of locals))
       → ((made : List Held) (s1 : State) (are : parts.AreMade it locals [] names around.values made)
-      → Reaches it.environment it.code (stands_at it made answered (at + length locals) [] s1)
+      → Reaches it.environment it.code (stands_at it made answered (at + length locals) operands s1)
       (items (made ++ it.frame.held) s1) (λ f. Bool)
       (leads (block_of it names flow around inside locals made answered are fresh)
       (inside_block it names flow around inside locals made answered are fresh) (at + length locals + size)))
-      → Reaches it.environment it.code (stands_at it [] answered at [] s) (in_block locals items it.frame.held s)
+      → Reaches it.environment it.code (stands_at it [] answered at operands s) (in_block locals items it.frame.held s)
       (λ f. Bool) (leads it inside (at + length locals + size + length locals))
-  block_runs it names flow around inside locals items position at size answered s fresh stands dead runs =
+  block_runs it names flow around inside locals items position at size answered operands s fresh stands dead runs =
       let next : ℕ = at + length locals + size in
       does_then it.environment it.code _ (locals_made locals [] s) _
-      (λ made s1. stands_at it made answered (at + length locals) [] s1)
+      (λ made s1. stands_at it made answered (at + length locals) operands s1)
       (parts.AreMade it locals [] names around.values) (λ f. Bool)
       (leads it inside (next + length locals))
-      (parts.makes_do it locals names around.values flow.slots at position [] answered s inside.above fresh
+      (parts.makes_do it locals names around.values flow.slots at position [] answered operands s inside.above fresh
       inside.named stands)
       (λ made s1 are.
       reaches_bind it.environment it.code _ (items (made ++ it.frame.held) s1) _ (λ f. Bool)

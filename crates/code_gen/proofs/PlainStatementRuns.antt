@@ -1,11 +1,13 @@
--- The machine does what statements mean: blocks, initializers, expression statements, `if` and jumps.
-use Rattle.std.proofs.Common.{◌≡◌, ◌∙◌, ℕ, ◌+◌, Bool, List, [], ◌∷◌, ◌++◌, refl, ap, sym, subst, arith, length}
+-- The machine does what statements without calls mean.
+use Rattle.std.proofs.Common.{◌≡◌, ◌∙◌, ℕ, zero, suc, ◌+◌, Bool, List, [], ◌∷◌, ◌++◌, refl, ap, sym, subst, arith}
+use Rattle.std.proofs.Common.{length}
 use Rattle.std.proofs.lemmas.List.{length-append}
 use Rattle.critical_table.specs.declared.pos.Pos.{Pos}
 use Rattle.c_core.specs.Named.{Names, names_in_block}
 use Rattle.c_core.specs.TreeUnit.{Statement, Stands, Action, Statements, NoStatement, MoreStatements, Program}
 use Rattle.c_core.specs.TreeUnit as unit
 use Rattle.c_core.specs.TypedUnit.{Flow as FlowTyped, StatementTyped, ActionTyped, StatementsTyped}
+use Rattle.c_core.specs.TypedUnit as typed
 use Rattle.run_defs.specs.State.{State}
 use Rattle.run_defs.specs.Evaluation.{Evaluation}
 use Rattle.vm_code.specs.declared.instr.Instr.{Instr}
@@ -15,7 +17,9 @@ use Rattle.code_gen.specs.ExpressionCode.{on}
 use Rattle.code_gen.specs.Expressions.{Call}
 use Rattle.code_gen.specs.Flows.{Flow, Next}
 use Rattle.code_gen.specs.RunLaw.{Comes, Reaches, StandAt, Running, stands_at}
-use Rattle.code_gen.specs.StatementCode.{Around, makes, kills_of, within_block, full_size, full_code, statement_size}
+use Rattle.code_gen.specs.StatementCode.{Around, makes, kills_of, within_block, in_loop, in_switch, full_size}
+use Rattle.code_gen.specs.StatementCode.{full_code, item_place}
+use Rattle.code_gen.specs.StatementCode.{statement_size}
 use Rattle.code_gen.specs.StatementCode.{items_size, action_size, statement_code, action_code, items_code, texts_in}
 use Rattle.code_gen.specs.StatementCode.{texts_of, texts_among}
 use Rattle.code_gen.specs.StatementRunLaw.{Inside, leads, IsPlainStatement, IsPlainAction, ArePlain, TextsStandAt}
@@ -25,9 +29,11 @@ use Rattle.code_gen.proofs.Going.{one_step, stand_front, stand_back, reaches_giv
 use Rattle.code_gen.proofs.Lengths.{on_long}
 use Rattle.code_gen.proofs.PlainActions as actions
 use Rattle.code_gen.proofs.PlainBlocks as blocks
+use Rattle.code_gen.proofs.PlainLoops as loops
 use Rattle.code_gen.proofs.PlainPieces as pieces_of
 use Rattle.code_gen.proofs.PlainStores as stores
 use Rattle.code_gen.proofs.PlainStretches as stretch
+use Rattle.code_gen.proofs.PlainSwitches as switches
 use Rattle.code_gen.proofs.StatementLengths.{full_long, statement_long, items_long, makes_long, items_size_at}
 use Rattle.code_gen.proofs.StatementLengths.{left_long}
 use Rattle.code_gen.proofs.StatementLengths.{left_again_long}
@@ -78,14 +84,14 @@ module _ (program : Program) (table : List Through) (call : Call) where
         ) in
         actions.to_there program table call it names flow around inside _ _ (at + n + size + n) _ same
         (blocks.block_runs program table call it names flow around inside locals
-        (items_from program call it.frame.result items 0) here at size answered s t.0
+        (items_from program call it.frame.result items 0) here at size answered [] s t.0
         (stand_front it.code it.function at a b both) behind
         (λ made s1 are.
         items_runs (blocks.block_of it names flow around inside locals made answered are t.0) (names_in_block
         locals names)
         flow inner (blocks.inside_block it names flow around inside locals made answered are t.0) items t.1 plain
         (at + n)
-        text (stand_back it.code it.function at n a b long_a both) literals answered s1))
+        text (stand_back it.code it.function at n a b long_a both) literals zero answered s1))
     action_runs it names flow around inside here (unit.Zero slot size) t plain at text stands literals answered s =
         stores.zero_runs program table call it names flow around inside slot size at here answered s t stands
     action_runs it names flow around inside here (unit.Initialize slot byte content core) t plain at text stands
@@ -136,7 +142,7 @@ module _ (program : Program) (table : List Through) (call : Call) where
         actions.if_runs program table call it names flow around inside test here at to next answered s
         (statement program call it.frame.result first it.frame.held)
         (statement program call it.frame.result second it.frame.held) t.0 t.1 plain.0 pieces.first pieces.second
-        (λ answered1 s1.
+        (λ answered1 s1 fewer.
         actions.from_there program table call it names flow around inside _ (at + (l + 1)) _ next answered1 s1
         first_start
         (actions.goes_on program table call it names flow around inside _ _ (at + (l + 1) + m) next
@@ -151,15 +157,36 @@ module _ (program : Program) (table : List Through) (call : Call) where
         (statement_runs it names flow around inside second t.3 plain.2 to (text + length (texts_in first)) last
         (pieces_of.texts_back it.code text (texts_in first) (texts_in second) literals) answered1 s1))
     action_runs it names flow around inside here (unit.While test body)
-        t plain at text stands literals answered s = absurd plain
+        t plain at text stands literals answered s =
+        loops.while_runs program table call it names flow around inside test body here at text t.0 t.1 plain.0 stands
+        (λ end again from there. statement_runs it names (typed.in_loop flow) (in_loop end again around)
+        (loops.inside_loop program table call it names flow around inside end again) body t.2 plain.1 from text there
+        literals) answered s
     action_runs it names flow around inside here (unit.Do body test)
-        t plain at text stands literals answered s = absurd plain
+        t plain at text stands literals answered s =
+        loops.do_runs program table call it names flow around inside body test here at text t.1 t.2 plain.1 stands
+        (λ end again from there. statement_runs it names (typed.in_loop flow) (in_loop end again around)
+        (loops.inside_loop program table call it names flow around inside end again) body t.0 plain.0 from text there
+        literals) answered s
     action_runs it names flow around inside here (unit.For test step body)
-        t plain at text stands literals answered s = absurd
-        plain
+        t plain at text stands literals answered s =
+        loops.for_runs program table call it names flow around inside test step body here at text t.0 t.1 plain.0 t.2
+        t.3 plain.1 stands
+        (λ end again from there. statement_runs it names (typed.in_loop flow) (in_loop end again around)
+        (loops.inside_loop program table call it names flow around inside end again) body t.4 plain.2 from text there
+        literals) answered s
     action_runs it names flow around inside here (unit.Switch core locals items cases default) t plain at text stands
         literals answered s =
-        absurd plain
+        switches.switch_runs program table call it names flow around inside locals items cases default here t.2 core at
+        text t.0 plain.0 t.1 stands
+        (λ end first there made answered1 are skipped s1.
+        let outer : Inside it names (typed.in_switch flow) (in_switch end around) =
+        switches.inside_switch program table call it names flow around inside end in
+        items_runs
+        (blocks.block_of it names (typed.in_switch flow) (in_switch end around) outer locals made answered1 are t.2)
+        (names_in_block locals names) (typed.in_switch flow) (within_block locals (in_switch end around))
+        (blocks.inside_block it names (typed.in_switch flow) (in_switch end around) outer locals made answered1 are t.2)
+        items t.3 plain.1 first text there literals skipped answered1 s1) answered s
     action_runs it names flow around inside here unit.Break t plain at text stands literals answered s =
         actions.break_runs program table call it names flow around inside here at _ answered s stands
     action_runs it names flow around inside here unit.Continue t plain at text stands literals answered s =
@@ -174,17 +201,34 @@ module _ (program : Program) (table : List Through) (call : Call) where
         stores.return_whole_runs program table call it names flow around inside size core here at _ answered s t.1 t.2
         t.3 plain stands
 
+    -- the items of a block, from one of them on
     items_runs : (it : Running) (names : Names) (flow : FlowTyped) (around : Around)
         (inside : Inside it names flow around) (items : Statements) → StatementsTyped names flow items → ArePlain items
         → (at text : ℕ) → StandAt it.code it.function at (items_code program table at text around items)
-        → TextsStandAt it.code text (texts_among items)
-        → Runs it inside (items_from program call it.frame.result items 0 it.frame.held) at
+        → TextsStandAt it.code text (texts_among items) → (skipped : ℕ)
+        → Runs it inside (items_from program call it.frame.result items skipped it.frame.held)
+        (item_place at (length around.left) (length around.left_again) items skipped)
         (at + items_size (length around.left) (length around.left_again) items)
-    items_runs it names flow around inside NoStatement t plain at text stands literals answered s =
+    items_runs it names flow around inside NoStatement t plain at text stands literals zero answered s =
         let same : at ≡ at + 0 = omega arith in
         reaches_gives it.environment it.code _ Next s (λ f. Bool) (leads it inside (at + 0)) answered
         (ap (λ k. stands_at it [] answered k [] s) same)
-    items_runs it names flow around inside (MoreStatements first rest) t plain at text stands literals answered s =
+    items_runs it names flow around inside NoStatement t plain at text stands literals (suc skipped) answered s =
+        let same : at ≡ at + 0 = omega arith in
+        reaches_gives it.environment it.code _ Next s (λ f. Bool) (leads it inside (at + 0)) answered
+        (ap (λ k. stands_at it [] answered k [] s) same)
+    items_runs it names flow around inside (MoreStatements first rest) t plain at text stands literals (suc skipped)
+        answered s =
+        let m : ℕ = size_of around first in
+        let r : ℕ = items_size (length around.left) (length around.left_again) rest in
+        let a : List (Instr × Pos) = statement_code program table at text around first in
+        let b : List (Instr × Pos) = items_code program table (at + m) (text + length (texts_in first)) around rest in
+        let same : at + m + r ≡ at + (m + r) = omega arith in
+        actions.to_there program table call it names flow around inside _ _ (at + m + r) _ same
+        (items_runs it names flow around inside rest t.1 plain.1 (at + m) (text + length (texts_in first))
+        (stand_back it.code it.function at m a b (statement_long program table at text around first) stands)
+        (pieces_of.texts_back it.code text (texts_in first) (texts_among rest) literals) skipped answered s)
+    items_runs it names flow around inside (MoreStatements first rest) t plain at text stands literals zero answered s =
         let m : ℕ = size_of around first in
         let r : ℕ = items_size (length around.left) (length around.left_again) rest in
         let a : List (Instr × Pos) = statement_code program table at text around first in
@@ -202,7 +246,7 @@ module _ (program : Program) (table : List Through) (call : Call) where
         actions.to_there program table call it names flow around inside _ _ (at + m + r) _ same
         (items_runs it names flow around inside rest t.1 plain.1 (at + m) (text + length (texts_in first))
         (stand_back it.code it.function at m a b (statement_long program table at text around first) stands)
-        (pieces_of.texts_back it.code text (texts_in first) (texts_among rest) literals) answered2 s2)))
+        (pieces_of.texts_back it.code text (texts_in first) (texts_among rest) literals) zero answered2 s2)))
 
 -- as the statement has it
 pub statements_run : EachPlainStatementRuns

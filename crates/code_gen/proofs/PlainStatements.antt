@@ -1,4 +1,4 @@
--- The machine does what statements without calls, loops, `switch` and strings mean.
+-- How the objects of a block are made, and jumps that leave some.
 use Rattle.std.proofs.Common.{◌≡◌, ◌∙◌, ℕ, ◌+◌, ◌<◌, ◌≤◌, ◌==◌, Bool, true, false, cond, List, [], ◌∷◌, ◌++◌, refl}
 use Rattle.std.proofs.Common.{ap, sym}
 use Rattle.std.proofs.Common.{subst, arith, map, length, reverse, Some, append_assoc}
@@ -122,36 +122,36 @@ module _ (it : Running) where
     pub slots_are : map (λ (h : Held). h.slot) made ≡ reverse (slots_of locals) ++ slots
     pub around : IsAround (record names { objects = objects_with locals names.objects }) low (made ++ it.frame.held)
 
-  -- the objects of a block are made
+  -- the objects of a block are made, above these operands
   pub makes_do : (locals : List Local) (names : Names) (low bound at : ℕ) (position : Pos) (objects : List Held)
-      (answered : Bool) (s : State) → bound ≤ low → AreFresh bound locals names.objects
+      (answered : Bool) (operands : List Value) (s : State) → bound ≤ low → AreFresh bound locals names.objects
       → IsAround names low (objects ++ it.frame.held)
       → StandAt code function at (on position (makes locals))
-      → Does e code (here objects answered at [] s) (locals_made locals objects s)
-      (λ made s1. here made answered (at + length locals) [] s1)
+      → Does e code (here objects answered at operands s) (locals_made locals objects s)
+      (λ made s1. here made answered (at + length locals) operands s1)
       (AreMade locals (map (λ (h : Held). h.slot) objects) names low)
-  makes_do [] names low bound at position objects answered s up fresh around stands =
+  makes_do [] names low bound at position objects answered operands s up fresh around stands =
       let same : at ≡ at + 0 = omega arith in
       does_gives e code _ objects s _ (AreMade [] (map (λ (h : Held). h.slot) objects) names low)
-      (ap (λ k. here objects answered k [] s) same) (record { slots_are = refl; around = around })
-  makes_do (local ∷ rest) names low bound at position objects answered s up fresh around stands =
+      (ap (λ k. here objects answered k operands s) same) (record { slots_are = refl; around = around })
+  makes_do (local ∷ rest) names low bound at position objects answered operands s up fresh around stands =
       let more : Names = record names { objects = local ∷ names.objects } in
       does_bind e code _ (automatic_made local.size s) _
-      (λ place s1. here (held_at local.slot place local.size ∷ objects) answered (at + 1) [] s1)
-      (λ made s1. here made answered (at + length (local ∷ rest)) [] s1) (values.IsWhole local.size)
+      (λ place s1. here (held_at local.slot place local.size ∷ objects) answered (at + 1) operands s1)
+      (λ made s1. here made answered (at + length (local ∷ rest)) operands s1) (values.IsWhole local.size)
       (AreMade (local ∷ rest) (map (λ (h : Held). h.slot) objects) names low)
-      (values.make_does it 0 local.slot local.size at position objects answered [] s (stands.0, tt))
+      (values.make_does it 0 local.slot local.size at position objects answered operands s (stands.0, tt))
       (λ place s1 whole.
       let h : Held = held_at local.slot place local.size in
       let same : at + 1 + length rest ≡ at + length (local ∷ rest) = omega arith in
-      subst (λ k. Does e code (here (h ∷ objects) answered (at + 1) [] s1) (locals_made rest (h ∷ objects) s1)
-      (λ made s2. here made answered k [] s2)
+      subst (λ k. Does e code (here (h ∷ objects) answered (at + 1) operands s1) (locals_made rest (h ∷ objects) s1)
+      (λ made s2. here made answered k operands s2)
       (AreMade (local ∷ rest) (map (λ (o : Held). o.slot) objects) names low)) same
       (does_fits e code _ (locals_made rest (h ∷ objects) s1)
-      (λ made s2. here made answered (at + 1 + length rest) [] s2)
+      (λ made s2. here made answered (at + 1 + length rest) operands s2)
       (AreMade rest (map (λ (o : Held). o.slot) (h ∷ objects)) more low)
       (AreMade (local ∷ rest) (map (λ (o : Held). o.slot) objects) names low)
-      (makes_do rest more low bound (at + 1) position (h ∷ objects) answered s1 up fresh.3
+      (makes_do rest more low bound (at + 1) position (h ∷ objects) answered operands s1 up fresh.3
       (around_more names low (objects ++ it.frame.held) local h refl refl (omega (arith, up, fresh.0)) around) stands.1)
       (λ made are. record {
         slots_are = are.slots_are ∙ reversed local.slot (slots_of rest) (map (λ (o : Held). o.slot) objects);

@@ -36,7 +36,7 @@ slots_long locals = length-reverse (slots_of locals) ∙ length-map locals (λ (
 pub kills_of_long : (locals : List Local) → length (kills_of locals) ≡ length locals
 kills_of_long locals = kills_long (reverse (slots_of locals)) ∙ slots_long locals
 
-pairs_to_long : (to : ℕ) (cases : List Case) → length (pairs_to to cases) ≡ length cases
+pub pairs_to_long : (to : ℕ) (cases : List Case) → length (pairs_to to cases) ≡ length cases
 pairs_to_long to [] = refl
 pairs_to_long to (label ∷ rest) = ap suc (pairs_to_long to rest)
 
@@ -44,7 +44,8 @@ pairs_by_long : (item : ℕ → ℕ) (cases : List Case) → length (pairs_by it
 pairs_by_long item [] = refl
 pairs_by_long item (label ∷ rest) = ap suc (pairs_by_long item rest)
 
-switch_code_long : (entered passed : ℕ) (item : ℕ → ℕ) (locals : List Local) (cases : List Case) (default : Option ℕ)
+pub switch_code_long : (entered passed : ℕ) (item : ℕ → ℕ) (locals : List Local) (cases : List Case)
+    (default : Option ℕ)
     → length (switch_code entered passed item locals cases default)
     ≡ length cases + (length locals + (length cases + 5))
 switch_code_long entered passed item locals cases default =

@@ -1,5 +1,5 @@
--- The machine's run of the code of a statement is what the meaning of the statement gives: so far of blocks,
--- initializers, expression statements, `if`, `break`, `continue`, `return`, and marks of const objects.
+-- The machine's run of the code of a statement is what the meaning of the statement gives: so far of each statement
+-- without calls.
 use Rattle.std.specs.Prelude.{◌≡◌, ℕ, ◌+◌, ◌≤◌, Bool, List, [], ◌∷◌, ◌++◌, length, map, unwrap_or, Some}
 use Rattle.std.specs.List.{slice_get}
 use Rattle.lib_defs.specs.declared.value.Value.TheVariants.{Nothing}
@@ -22,7 +22,7 @@ use Rattle.code_gen.specs.RunLaw.{IsPlain, IsAround, Reaches, Running, StandAt, 
 use Rattle.code_gen.specs.StatementCode.{Around, statement_size, statement_code, texts_in}
 use Rattle.code_gen.specs.Statements.{statement}
 
--- ---- the statements that are covered
+-- ---- statements without calls
 
 abbrev mutual
   pub IsPlainStatement : Statement → Type 0
@@ -37,10 +37,10 @@ abbrev mutual
   IsPlainAction (unit.Evaluate core) = IsPlain core
   IsPlainAction (unit.If test first second) =
       IsPlain test × IsPlainStatement first × IsPlainStatement second
-  IsPlainAction (unit.While test body) = ⊥
-  IsPlainAction (unit.Do body test) = ⊥
-  IsPlainAction (unit.For test step body) = ⊥
-  IsPlainAction (unit.Switch value locals items cases default) = ⊥
+  IsPlainAction (unit.While test body) = IsPlain test × IsPlainStatement body
+  IsPlainAction (unit.Do body test) = IsPlainStatement body × IsPlain test
+  IsPlainAction (unit.For test step body) = IsPlain test × IsPlain step × IsPlainStatement body
+  IsPlainAction (unit.Switch value locals items cases default) = IsPlain value × ArePlain items
   IsPlainAction unit.Break = Unit {0}
   IsPlainAction unit.Continue = Unit {0}
   IsPlainAction unit.Return = Unit {0}

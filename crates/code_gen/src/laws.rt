@@ -44,8 +44,7 @@ pub fn run_law()
 /// goes on, to the next statement, out of a loop or switch, to the next turn or to the caller, in the state that the
 /// meaning gives once a jump has let the objects die that it leaves; or it ends as the meaning stops. The literals that
 /// initialize arrays are to stand among the texts of the code, and the objects that are named to have sizes. So far of
-/// each well-typed block, initializer, expression statement, `if`, `break`, `continue`, `return`, and mark of a const
-/// object, without calls.
+/// each well-typed statement without calls.
 pub fn statement_run_law()
     ensures { EachPlainStatementRuns }
 {}

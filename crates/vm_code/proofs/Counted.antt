@@ -26,7 +26,7 @@ use Rattle.vm_code.specs.Ways.{stretch_of}
 use Rattle.vm_code.specs.Valid.{CannotStart, IsValid}
 use Rattle.vm_code.specs.Bound.{IsBounded}
 use Rattle.vm_code.proofs.TicksFall.{sealed_ticks, Leaves, leaves_bind, leaves_within}
-use Rattle.vm_code.proofs.Weights.{spent, spent_less, weights, Within, within_entered}
+use Rattle.vm_code.proofs.Weights.{spent, spent_less, by_instructions, weights, Within, within_entered}
 use Rattle.vm_code.proofs.Falling.{and_left, and_right, bool_true, function_contained, Falls, step_falls}
 
 -- ---- the count
@@ -58,7 +58,7 @@ falls_less code m n Stuck falls less = tt
 module _ (code : Contents) (valid : IsValid code) (e : Environment) where
   -- what is begun in n steps, where no more than m is left at the first
   Counts : ℕ → Type 0
-  Counts n = (m : ℕ) (place : Place) (outcome : Outcome) (s : State) → Within code m place
+  Counts n = (m : ℕ) (place : Place) (outcome : Outcome) (s : State) → Within (by_instructions code) m place
       → run e code place n ≡ Ends outcome s → begun_count e code place n + spent (length code.instrs) s.ticks ≤ m + 1
 
   counts_on : (n m : ℕ) (place : Place) (outcome : Outcome) (s : State) → Counts n → Falls code m place
@@ -71,8 +71,8 @@ module _ (code : Contents) (valid : IsValid code) (e : Environment) where
   counts_on n m Stuck outcome s all falls is = absurd (stuck_ends outcome s is)
   counts_on n m (Goes frames there) outcome s all falls is =
       let few : begun_count e code (Goes frames there) n + spent (length code.instrs) s.ticks
-      ≤ spent (length code.instrs) there.ticks + weights code frames + 1 =
-      all (spent (length code.instrs) there.ticks + weights code frames) (Goes frames there) outcome s
+      ≤ spent (length code.instrs) there.ticks + weights (by_instructions code) frames + 1 =
+      all (spent (length code.instrs) there.ticks + weights (by_instructions code) frames) (Goes frames there) outcome s
       (omega arith) is in
       omega (arith, few, falls)
 
@@ -87,7 +87,7 @@ module _ (code : Contents) (valid : IsValid code) (e : Environment) where
   counted (suc n) m (Goes frames there) outcome s within is =
       let few : begun_count e code (step e code frames there) n + spent (length code.instrs) s.ticks ≤ m =
       counts_on n m (step e code frames there) outcome s (counted n)
-      (falls_less code (spent (length code.instrs) there.ticks + weights code frames) m
+      (falls_less code (spent (length code.instrs) there.ticks + weights (by_instructions code) frames) m
       (step e code frames there) (step_falls code valid e frames there) within) is in
       omega (arith, few)
 
@@ -198,13 +198,14 @@ module _ (code : Contents) (valid : IsValid code) (e : Environment) (ticks n : �
   few_entered (Some function) f there is less ends counts =
       let some : 0 < length code.instrs =
       some_instr code valid function (function_contained code.functions f function is) in
-      let P : Option CodeFunction → Type 0 = λ o. Within code (spent (length code.instrs) there.ticks
+      let P : Option CodeFunction → Type 0 = λ o. Within (by_instructions code) (spent (length code.instrs) there.ticks
       + length code.instrs) (entered_at o (outer_entry f) [] there) in
       let few : begun_count e code (entered_at (Some function) (outer_entry f) [] there) n
       + spent (length code.instrs) s.ticks ≤ spent (length code.instrs) there.ticks + length code.instrs + 1 =
       counted code valid e n (spent (length code.instrs) there.ticks + length code.instrs)
       (entered_at (Some function) (outer_entry f) [] there) outcome s
-      (subst P is (within_entered code (spent (length code.instrs) there.ticks + length code.instrs) (outer_entry f)
+      (subst P is (within_entered (by_instructions code) code
+      (spent (length code.instrs) there.ticks + length code.instrs) (outer_entry f)
       [] there (omega arith))) ends in
       few_of (length code.instrs) ticks there.ticks s.ticks n some less (omega (arith, few, counts))
 

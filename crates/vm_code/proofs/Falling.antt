@@ -22,7 +22,7 @@ use Rattle.vm_code.specs.Ways.{stretch_of}
 use Rattle.vm_code.specs.Valid.{StandsAt, OfFunction, IsUnsound, IsValid}
 use Rattle.vm_code.proofs.Fronts.{some_alone}
 use Rattle.vm_code.proofs.Acting.{first_of}
-use Rattle.vm_code.proofs.Weights.{spent, rest_if, rest_at, rest_le, weights, Within}
+use Rattle.vm_code.proofs.Weights.{spent, rest_if, rest_at, rest_le, by_instructions, weights, Within}
 use Rattle.vm_code.proofs.ActingOn.{within_act, later, none_is_some}
 
 -- ---- what soundness says of the places where an instruction leads
@@ -77,21 +77,22 @@ function_contained functions (suc k) f is = found_contains functions k f is
 
 -- less than m is left at a place
 abbrev pub Falls : Contents → ℕ → Place → Type 0
-Falls code m (Goes frames s) = spent (length code.instrs) s.ticks + weights code frames < m
+Falls code m (Goes frames s) = spent (length code.instrs) s.ticks + weights (by_instructions code) frames < m
 Falls code m (Ends outcome s) = spent (length code.instrs) s.ticks ≤ m
 Falls code m Stuck = Unit {0}
 
-falls_within : (code : Contents) (m n : ℕ) (place : Place) → Within code m place → m < n → Falls code n place
+falls_within : (code : Contents) (m n : ℕ) (place : Place) → Within (by_instructions code) m place → m < n
+    → Falls code n place
 falls_within code m n (Goes frames s) within less = omega (arith, within, less)
 falls_within code m n (Ends outcome s) within less = omega (arith, within, less)
 falls_within code m n Stuck within less = tt
 
 -- a tick pays for the pass behind it
 falls_tick : (n : ℕ) (c : Context) (operands : List Value) → n ≡ c.state.ticks → 0 < length c.code.instrs
-    → Falls c.code (spent (length c.code.instrs) n + weights c.code c.rest)
+    → Falls c.code (spent (length c.code.instrs) n + weights (by_instructions c.code) c.rest)
     (after (ticked_at n c.state) (λ u s. next c operands s))
 falls_tick zero c operands same some = let P : ℕ → Type 0 = λ t. spent (length c.code.instrs) t
-    ≤ spent (length c.code.instrs) zero + weights c.code c.rest in subst P same (omega arith)
+    ≤ spent (length c.code.instrs) zero + weights (by_instructions c.code) c.rest in subst P same (omega arith)
 falls_tick (suc n) c operands same some =
     let rest : rest_at c.code (c.frame.at + 1) ≤ length c.code.instrs = rest_le c.code (c.frame.at + 1) in
     omega (arith, rest, some)
@@ -112,7 +113,7 @@ module _ (code : Contents) (valid : IsValid code) (e : Environment) where
   falls_other : (f : CodeFunction) (frame : Activation) (rest : List Frame) (s : State) (instr : Instr) (here : Pos)
       → Contains code.functions f → f.start ≤ frame.at → frame.at < end_of code f
       → slice_get code.instrs frame.at ≡ Some (instr, here) → is_tick (Some (instr, here)) ≡ false
-      → Falls code (spent (length code.instrs) s.ticks + (rest_at code frame.at + weights code rest))
+      → Falls code (spent (length code.instrs) s.ticks + (rest_at code frame.at + weights (by_instructions code) rest))
       (acts (Some (instr, here)) e code f frame rest s)
   falls_other f frame rest s instr here is from to stands other =
       let sound : is_sound code (stretch_of code f) frame.at instr ≡ true =
@@ -125,10 +126,10 @@ module _ (code : Contents) (valid : IsValid code) (e : Environment) where
       let left : rest_at code frame.at ≡ length code.instrs - frame.at =
       ap (λ (b : Bool). rest_if b (length code.instrs) frame.at) no_tick in
       falls_within code
-      (spent (length code.instrs) s.ticks + (length code.instrs - (frame.at + 1)) + weights code rest)
-      (spent (length code.instrs) s.ticks + (rest_at code frame.at + weights code rest))
+      (spent (length code.instrs) s.ticks + (length code.instrs - (frame.at + 1)) + weights (by_instructions code) rest)
+      (spent (length code.instrs) s.ticks + (rest_at code frame.at + weights (by_instructions code) rest))
       (acts (Some (instr, here)) e code f frame rest s)
-      (within_act (record {
+      (within_act (by_instructions code) (record {
         environment = e;
         code = code;
         function = f;
@@ -136,7 +137,8 @@ module _ (code : Contents) (valid : IsValid code) (e : Environment) where
         rest = rest;
         pos = here;
         state = s;
-      }) (spent (length code.instrs) s.ticks + (length code.instrs - (frame.at + 1)) + weights code rest)
+      })
+      (spent (length code.instrs) s.ticks + (length code.instrs - (frame.at + 1)) + weights (by_instructions code) rest)
       (length code.instrs - (frame.at + 1)) (omega arith) instr
       (λ there found. leads_rest code (stretch_of code f) frame.at there
       (all_of (leads code (stretch_of code f) frame.at) (next_places code frame.at instr) there led found)))
@@ -145,17 +147,18 @@ module _ (code : Contents) (valid : IsValid code) (e : Environment) where
   falls_act : (f : CodeFunction) (frame : Activation) (rest : List Frame) (s : State) (instr : Instr) (here : Pos)
       → Contains code.functions f → f.start ≤ frame.at → frame.at < end_of code f
       → slice_get code.instrs frame.at ≡ Some (instr, here)
-      → Falls code (spent (length code.instrs) s.ticks + (rest_at code frame.at + weights code rest))
+      → Falls code (spent (length code.instrs) s.ticks + (rest_at code frame.at + weights (by_instructions code) rest))
       (acts (Some (instr, here)) e code f frame rest s)
   falls_act f frame rest s i.Tick here is from to stands =
       let below : frame.at < length code.instrs = slice_get_within code.instrs frame.at (i.Tick, here) stands in
       let left : rest_at code frame.at ≡ 0 =
       ap (λ (b : Bool). rest_if b (length code.instrs) frame.at) (ap is_tick stands) in
-      let P : ℕ → Type 0 = λ n. Falls code (spent (length code.instrs) s.ticks + (n + weights code rest))
+      let P : ℕ → Type 0 =
+      λ n. Falls code (spent (length code.instrs) s.ticks + (n + weights (by_instructions code) rest))
       (acts (Some (i.Tick, here)) e code f frame rest s) in
       let Q : ℕ → Type 0 = λ n. Falls code (spent (length code.instrs) s.ticks + n)
       (acts (Some (i.Tick, here)) e code f frame rest s) in
-      let zero_first : 0 + weights code rest ≡ weights code rest = omega arith in
+      let zero_first : 0 + weights (by_instructions code) rest ≡ weights (by_instructions code) rest = omega arith in
       subst P (sym left) (subst Q (sym zero_first) (falls_tick s.ticks (record {
         environment = e;
         code = code;
@@ -170,13 +173,14 @@ module _ (code : Contents) (valid : IsValid code) (e : Environment) where
 
   falls_fetched : (b : Bool) (f : CodeFunction) (frame : Activation) (rest : List Frame) (s : State)
       → (b ≡ true → f.start ≤ frame.at × frame.at < end_of code f) → Contains code.functions f
-      → Falls code (spent (length code.instrs) s.ticks + (rest_at code frame.at + weights code rest))
+      → Falls code (spent (length code.instrs) s.ticks + (rest_at code frame.at + weights (by_instructions code) rest))
       (acts (fetched_if b code frame.at) e code f frame rest s)
   falls_fetched false f frame rest s inside is = tt
   falls_fetched true f frame rest s inside is = at_instr (slice_get code.instrs frame.at) refl
     where
       at_instr : (o : Option (Instr × Pos)) → slice_get code.instrs frame.at ≡ o
-          → Falls code (spent (length code.instrs) s.ticks + (rest_at code frame.at + weights code rest))
+          → Falls code
+          (spent (length code.instrs) s.ticks + (rest_at code frame.at + weights (by_instructions code) rest))
           (acts o e code f frame rest s)
       at_instr None stands = tt
       at_instr (Some (instr, here)) stands =
@@ -184,7 +188,7 @@ module _ (code : Contents) (valid : IsValid code) (e : Environment) where
 
   falls_in : (frame : Activation) (rest : List Frame) (s : State) (o : Option CodeFunction)
       → function_at code.functions frame.function ≡ o
-      → Falls code (spent (length code.instrs) s.ticks + (rest_at code frame.at + weights code rest))
+      → Falls code (spent (length code.instrs) s.ticks + (rest_at code frame.at + weights (by_instructions code) rest))
       (step_in o e code frame rest s)
   falls_in frame rest s None is = tt
   falls_in frame rest s (Some f) is =
@@ -193,7 +197,7 @@ module _ (code : Contents) (valid : IsValid code) (e : Environment) where
 
   -- Each step leaves less.
   pub step_falls : (frames : List Frame) (s : State)
-      → Falls code (spent (length code.instrs) s.ticks + weights code frames) (step e code frames s)
+      → Falls code (spent (length code.instrs) s.ticks + weights (by_instructions code) frames) (step e code frames s)
   step_falls [] s = tt
   step_falls (Waiting call ∷ rest) s = tt
   step_falls (Active frame ∷ rest) s =

@@ -11,6 +11,7 @@ mod Weights
 mod Acting
 mod ActingOn
 mod Falling
+pub mod RunTicks
 mod Counted
 mod ValidExamples
 mod EndLemmas
