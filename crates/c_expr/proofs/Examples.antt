@@ -28,10 +28,10 @@ use Rattle.c_scopes.specs.Named.{Named, ConstantOf}
 use Rattle.c_scopes.specs.Scopes.{no_names, found}
 use Rattle.c_conversions.specs.Kinds.{basic_type, pointer_to}
 use Rattle.c_type_rules.specs.declared.context.Setting.TheVariants as setting
-use Rattle.c_expr.specs.Answers.{Answer, Gives, Refuses, and_then, settle}
-use Rattle.c_expr.specs.declared.derivations.Around.{Around}
-use Rattle.c_expr.specs.Declaring.{of_derivations, derived_type}
-use Rattle.c_expr.specs.Outlines.{bare_context, of_specifiers, type_on}
+use Rattle.c_type_parts.specs.Answers.{Answer, Gives, Refuses, and_then, settle}
+use Rattle.c_type_parts.specs.declared.derivations.Around.{Around}
+use Rattle.c_type_parts.specs.Declaring.{of_derivations, derived_type}
+use Rattle.c_type_parts.specs.Outlines.{bare_context, of_specifiers, type_on}
 use Rattle.c_expr.specs.Typing.{typed, named, each_specified, one_specified, members_typed, member_typed}
 use Rattle.c_expr.specs.Typing.{each_member, enumerated, enumerator_value, derived, array_length, parameters_typed}
 use Rattle.c_expr.specs.Typing.{parameter_typed, specified, declared}

@@ -1,15 +1,4 @@
-pub mod Becoming
-pub mod Bodies
-pub mod BoundEnumerators
-pub mod BoundParameters
-pub mod Deriving
 pub mod Examples
 pub mod Expecting
-pub mod KnownTags
 pub mod Literals
-pub mod Looking
-pub mod Onward
 pub mod Parts
-pub mod SpecifierLists
-pub mod Stands
-pub mod Steps

@@ -14,12 +14,12 @@ use Rattle.c_core.specs.View.{core_of}
 use Rattle.c_core.proofs.Kept.{core_kept, core_in_kept, id_in_kept, type_kept}
 use Rattle.c_conversions.specs.declared.operand.Operand.{Operand}
 use Rattle.c_conversions.specs.Parts.{Part, part_of, PartIn}
-use Rattle.c_expr.specs.Answers.{Answer, Gives, and_then}
-use Rattle.c_expr.specs.Clauses.{Given}
+use Rattle.c_type_parts.specs.Answers.{Answer, Gives, and_then}
+use Rattle.c_type_parts.specs.Clauses.{Given}
 use Rattle.c_expr.specs.declared.usage.Usage.{Usage}
 use Rattle.c_expr.specs.declared.usage.Usages.{Usages}
 use Rattle.c_expr.specs.Uses.{Side, side_as, both}
-use Rattle.c_expr.proofs.Steps.{then_given}
+use Rattle.c_type_parts.proofs.Steps.{then_given}
 
 module _ (old new : Types) (grown : Grows old new) where
   pub part_kept : (operand : Operand) → PartIn old operand → part_of new operand ≡ part_of old operand

@@ -24,20 +24,20 @@ use Rattle.c_expr_rules.specs.Calls.{call_rule}
 use Rattle.c_operator_rules.specs.Conditional.{conditional_rule}
 use Rattle.c_expr_rules.specs.Pointers.{index_rule}
 use Rattle.c_expr_rules.specs.Primary.{literal_rule, name_rule}
-use Rattle.c_expr.specs.Answers.{Answer, Gives, and_then, settle}
-use Rattle.c_expr.specs.declared.derivations.Around.{Around}
-use Rattle.c_expr.specs.Declaring.{ToPointer, Derived, of_derivations, own_around, no_ellipsis, is_alone, parameter_of}
-use Rattle.c_expr.specs.Declaring.{and_type, plain_derived, array_derived, function_derived, is_first, TypedMembers}
-use Rattle.c_expr.specs.Declaring.{no_members, with_member, name_or_none, enumerator_bound}
-use Rattle.c_expr.specs.Environments.{scope_entered, scope_left}
+use Rattle.c_type_parts.specs.Answers.{Answer, Gives, and_then, settle}
+use Rattle.c_type_parts.specs.declared.derivations.Around.{Around}
+use Rattle.c_type_parts.specs.Declaring.{ToPointer, Derived, of_derivations, own_around, no_ellipsis, is_alone, parameter_of}
+use Rattle.c_type_parts.specs.Declaring.{and_type, plain_derived, array_derived, function_derived, is_first, TypedMembers}
+use Rattle.c_type_parts.specs.Declaring.{no_members, with_member, name_or_none, enumerator_bound}
+use Rattle.c_type_parts.specs.Environments.{scope_entered, scope_left}
 use Rattle.c_expr.specs.Operands.{constant_rule, units_among, callee_parameters, callee_varies, first_of}
 use Rattle.c_expr.specs.Operands.{behind_first, whole_usage, selection_rule, prefix_usage, prefixed_rule}
 use Rattle.c_expr.specs.Operands.{measure_rule, is_decrement, cast_usage, cast_to_rule, two_values, infix_usages}
 use Rattle.c_expr.specs.Operands.{choice_usages}
-use Rattle.c_expr.specs.Outlines.{Outline, Before, nothing, outline, of_specifiers, storage_on, qualifier_on}
-use Rattle.c_expr.specs.Outlines.{inline_on, basic_on, type_on, typedef_rule, bare_context}
-use Rattle.c_expr.specs.Shapes.{place_of, name_in, place_in, own_place, first_place, names_something, start}
-use Rattle.c_expr.specs.Tagging.{is_union, tagged_compound, tagged_enumeration, compound_with, enumeration_with}
+use Rattle.c_type_parts.specs.Outlines.{Outline, Before, nothing, outline, of_specifiers, storage_on, qualifier_on}
+use Rattle.c_type_parts.specs.Outlines.{inline_on, basic_on, type_on, typedef_rule, bare_context}
+use Rattle.c_type_parts.specs.Shapes.{place_of, name_in, place_in, own_place, first_place, names_something, start}
+use Rattle.c_type_parts.specs.Tagging.{is_union, tagged_compound, tagged_enumeration, compound_with, enumeration_with}
 use Rattle.c_expr.specs.Uses.{as_used, as_value, as_test, as_argument, Side, side_as, both, joined}
 
 unfoldable mutual

@@ -13,7 +13,7 @@ use Rattle.c_operator_rules.specs.Binary.{binary_rule, and_rule, or_rule}
 use Rattle.c_operator_rules.specs.Comparisons.{comparison_rule}
 use Rattle.c_operator_rules.specs.Conditional.{comma_part}
 use Rattle.c_expr_rules.specs.Uses.{used_rule, value_rule, test_rule, discard_rule}
-use Rattle.c_expr.specs.Answers.{Answer, Gives, and_then, settle}
+use Rattle.c_type_parts.specs.Answers.{Answer, Gives, and_then, settle}
 use Rattle.c_expr.specs.declared.usage.Usage.{Usage}
 use Rattle.c_expr.specs.declared.usage.Usage.TheVariants as usage
 use Rattle.c_expr.specs.declared.usage.Usages.{Usages}

@@ -1,25 +1,8 @@
-//! Which type a specifier list, a declarator and a type name stand for, and what an expression is (6.5, 6.7).
+//! What an expression, a type name, specifiers and a declarator are: the walk over their syntax (6.5, 6.7).
 #![tactic(auto)]
 
 pub mod applying;
 pub mod argument;
-pub mod completing;
-pub mod derivations;
-pub mod enumerating;
-pub mod naming;
 pub mod operators;
-pub mod outlines;
-pub mod parameters;
 pub mod primary;
-pub mod tagging;
 pub mod usage;
-pub mod words;
-
-pub use naming::{bind_name, new_compound, new_enumeration};
-pub use tagging::{
-    TagUse, begin_compound, begin_enumeration, declare_compound, tagged_body, tagged_compound,
-    tagged_enumeration, tagged_enumerators,
-};
-
-#[cfg(test)]
-mod tests;

@@ -3,7 +3,7 @@
 ghost use Rattle.std.specs.Prelude.{◌≡◌};
 ghost use Rattle.c_syntax.specs.View.{expr_of};
 ghost use Rattle.c_expr.specs.Operands as rule;
-ghost use Rattle.c_expr.specs.Shapes as spec;
+ghost use Rattle.c_type_parts.specs.Shapes as spec;
 
 use c_core::{Comparison as Relation, Operator};
 use c_syntax::{Arithmetic, Comparison, Expr, Postfix};

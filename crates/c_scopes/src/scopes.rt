@@ -94,9 +94,10 @@ impl Scopes {
         })
     }
 
-    /// Opens an empty innermost scope.
+    /// Opens an empty innermost scope, which can be left again.
     pub fn enter(&mut self) -> Result<(), AllocError>
-        ensures { OnOk result (self.new ≡ no_names ∷ self.old) }
+        ensures opens { OnOk result (self.new ≡ no_names ∷ self.old) }
+        ensures inner { OnOk result (2 ≤ length self.new) }
     {
         let inner = std::mem::replace(&mut self.inner, Scope::new(self.alloc));
         self.outer.push(inner)?;

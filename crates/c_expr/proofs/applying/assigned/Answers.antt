@@ -10,7 +10,7 @@ use Rattle.c_conversions.specs.Parts.{Part, part_of, PartIn}
 use Rattle.c_operator_rules.specs.Assignment.{assigned_rule, assign_rule}
 use Rattle.c_expr.specs.Uses.{joined}
 use Rattle.c_expr.proofs.Parts.{part_in_kept, part_kept}
-use Rattle.c_expr.proofs.Steps.{breaks_refused, refused_then, settled, then_part}
+use Rattle.c_type_parts.proofs.Steps.{breaks_refused, refused_then, settled, then_part}
 use Rattle.c_expr.proofs.applying.assigned.Goals as goal
 
 pub assign-requires-clause-target : goal.assign-requires-clause-target

@@ -10,7 +10,7 @@ use Rattle.c_operator_rules.specs.Assignment.{compound_rule}
 use Rattle.c_operator_rules.specs.Binary.{binary_rule}
 use Rattle.c_operator_rules.specs.Comparisons.{comparison_rule}
 use Rattle.c_expr.specs.Uses.{joined}
-use Rattle.c_expr.proofs.Steps.{answers_as, settled}
+use Rattle.c_type_parts.proofs.Steps.{answers_as, settled}
 use Rattle.c_expr.proofs.applying.joined.Goals as goal
 
 pub returns-in-Arithmetic : goal.returns-in-Arithmetic

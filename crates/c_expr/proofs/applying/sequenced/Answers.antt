@@ -1,7 +1,7 @@
 -- The left operand, and then the right one.
 use Rattle.std.proofs.Common.{ap, sym}
 use Rattle.c_scopes.specs.Env.{env_of}
-use Rattle.c_expr.specs.Answers.{Gives}
+use Rattle.c_type_parts.specs.Answers.{Gives}
 use Rattle.c_expr.specs.Uses.{joined}
 use Rattle.c_expr.proofs.applying.sequenced.Goals as goal
 

@@ -5,7 +5,7 @@ use Rattle.c_scopes.specs.Clauses.{Rules}
 use Rattle.c_scopes.specs.Named.{Named}
 use Rattle.c_conversions.specs.Parts.{part_of, PartIn}
 use Rattle.c_expr_rules.specs.Primary.{name_rule}
-use Rattle.c_expr.proofs.Looking.{looked_up, looked_up_in}
+use Rattle.c_type_parts.proofs.Looking.{looked_up, looked_up_in}
 use Rattle.c_expr.proofs.primary.identifier.Goals as goal
 
 pub name-requires : goal.name-requires

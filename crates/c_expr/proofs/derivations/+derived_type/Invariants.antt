@@ -1,6 +1,0 @@
--- It goes down the derivations.
-use Rattle.std.proofs.Common.{length}
-use Rattle.c_expr.proofs.derivations.+derived_type.Given as goal
-
-abbrev pub decreases-derived_type : goal.decreases-derived_type
-decreases-derived_type l = length l.all.now

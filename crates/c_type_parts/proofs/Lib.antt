@@ -1,0 +1,11 @@
+pub mod Becoming
+pub mod Bodies
+pub mod BoundEnumerators
+pub mod BoundParameters
+pub mod Deriving
+pub mod KnownTags
+pub mod Looking
+pub mod Onward
+pub mod SpecifierLists
+pub mod Stands
+pub mod Steps
