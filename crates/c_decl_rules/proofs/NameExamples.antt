@@ -75,8 +75,8 @@ abbrev around : Named → Seen
 around named = record { named = Some named; here = false }
 
 -- an object that was first declared in column 1
-abbrev object : Linkage → Standing → CType → Named
-object linkage standing type = ObjectOf type (record {
+abbrev known_object : Linkage → Standing → CType → Named
+known_object linkage standing type = ObjectOf type (record {
   name = object.Static (at 1);
   register = false;
   linkage = linkage;
@@ -119,54 +119,54 @@ unfolding agree bare_agree all_agree composite_of bare_composite all_composites 
 extern_x = refl
 
 -- int x; int x;
-tentative_again : name_rule [] (in_file None int) (here (object linkage.External standing.Tentative int))
-    ≡ Fits (object linkage.External standing.Tentative int)
+tentative_again : name_rule [] (in_file None int) (here (known_object linkage.External standing.Tentative int))
+    ≡ Fits (known_object linkage.External standing.Tentative int)
 unfolding agree bare_agree all_agree composite_of bare_composite all_composites same same_bare all_same
 tentative_again = refl
 
 -- int x; int x = 1;
-defined_behind : name_rule [] (initialized None int) (here (object linkage.External standing.Tentative int))
-    ≡ Fits (object linkage.External standing.Defined int)
+defined_behind : name_rule [] (initialized None int) (here (known_object linkage.External standing.Tentative int))
+    ≡ Fits (known_object linkage.External standing.Defined int)
 unfolding agree bare_agree all_agree composite_of bare_composite all_composites same same_bare all_same
 defined_behind = refl
 
 -- int x = 1; int x = 1;
-defined_twice : name_rule [] (initialized None int) (here (object linkage.External standing.Defined int)) ≡ Breaks 20
+defined_twice : name_rule [] (initialized None int) (here (known_object linkage.External standing.Defined int)) ≡ Breaks 20
 unfolding agree bare_agree all_agree composite_of bare_composite all_composites same same_bare all_same
 defined_twice = refl
 
 -- int x; char x;
-another_type : name_rule [] (in_file None char) (here (object linkage.External standing.Tentative int)) ≡ Breaks 2
+another_type : name_rule [] (in_file None char) (here (known_object linkage.External standing.Tentative int)) ≡ Breaks 2
 unfolding agree bare_agree all_agree composite_of bare_composite all_composites same same_bare all_same
 another_type = refl
 
 -- static int x; extern int x;
 extern_behind_static : name_rule [] (in_file (Some storage.Extern) int)
-    (here (object linkage.Internal standing.Tentative int)) ≡ Fits (object linkage.Internal standing.Tentative int)
+    (here (known_object linkage.Internal standing.Tentative int)) ≡ Fits (known_object linkage.Internal standing.Tentative int)
 unfolding agree bare_agree all_agree composite_of bare_composite all_composites same same_bare all_same
 extern_behind_static = refl
 
 -- static int x; int x;
-plain_behind_static : name_rule [] (in_file None int) (here (object linkage.Internal standing.Tentative int)) ≡ Breaks 2
+plain_behind_static : name_rule [] (in_file None int) (here (known_object linkage.Internal standing.Tentative int)) ≡ Breaks 2
 unfolding agree bare_agree all_agree composite_of bare_composite all_composites same same_bare all_same
 plain_behind_static = refl
 
 -- int x; static int x;
 static_behind_plain : name_rule [] (in_file (Some storage.Static) int)
-    (here (object linkage.External standing.Tentative int)) ≡ Breaks 2
+    (here (known_object linkage.External standing.Tentative int)) ≡ Breaks 2
 unfolding agree bare_agree all_agree composite_of bare_composite all_composites same same_bare all_same
 static_behind_plain = refl
 
 -- extern int x[]; int x[3];
 length_behind : name_rule [] (in_file None (Array int (Some 3)))
-    (here (object linkage.External standing.Declared (Array int None)))
-    ≡ Fits (object linkage.External standing.Tentative (Array int (Some 3)))
+    (here (known_object linkage.External standing.Declared (Array int None)))
+    ≡ Fits (known_object linkage.External standing.Tentative (Array int (Some 3)))
 unfolding agree bare_agree all_agree composite_of bare_composite all_composites same same_bare all_same
 length_behind = refl
 
 -- extern int x[2]; int x[3];
 other_length : name_rule [] (in_file None (Array int (Some 3)))
-    (here (object linkage.External standing.Declared (Array int (Some 2)))) ≡ Breaks 2
+    (here (known_object linkage.External standing.Declared (Array int (Some 2)))) ≡ Breaks 2
 unfolding agree bare_agree all_agree composite_of bare_composite all_composites same same_bare all_same
 other_length = refl
 
@@ -182,7 +182,7 @@ no_length = refl
 
 -- int x[3]; int x[];
 no_length_behind : name_rule [] (in_file None (Array int None))
-    (here (object linkage.External standing.Tentative (Array int (Some 3)))) ≡ Breaks 9
+    (here (known_object linkage.External standing.Tentative (Array int (Some 3)))) ≡ Breaks 9
 unfolding agree bare_agree all_agree composite_of bare_composite all_composites same same_bare all_same
 no_length_behind = refl
 
@@ -297,7 +297,7 @@ library_in_block = refl
 -- ---- blocks
 
 -- { int x; int x; }
-block_twice : name_rule [] (in_block None int) (here (object linkage.None standing.Defined int)) ≡ Breaks 2
+block_twice : name_rule [] (in_block None int) (here (known_object linkage.None standing.Defined int)) ≡ Breaks 2
 unfolding agree bare_agree all_agree composite_of bare_composite all_composites same same_bare all_same
 block_twice = refl
 
@@ -318,7 +318,7 @@ unfolding agree bare_agree all_agree composite_of bare_composite all_composites 
 block_function = refl
 
 -- int x; { char x; }
-block_hides : name_rule [] (in_block None char) (around (object linkage.External standing.Tentative int))
+block_hides : name_rule [] (in_block None char) (around (known_object linkage.External standing.Tentative int))
     ≡ Fits (ObjectOf char (record {
       name = object.Slot 2;
       register = false;

@@ -62,10 +62,16 @@ pub fn linkage_of(
 pub fn denote_one(one: Linkage, other: Linkage) -> bool
     ensures { result ≡ spec.denote_one one other }
 {
-    match (one, other) {
-        (Linkage::Internal, Linkage::Internal) => true,
-        (Linkage::External, Linkage::External) => true,
-        _ => false,
+    match one {
+        Linkage::None => false,
+        Linkage::Internal => match other {
+            Linkage::Internal => true,
+            _ => false,
+        },
+        Linkage::External => match other {
+            Linkage::External => true,
+            _ => false,
+        },
     }
 }
 

@@ -8,6 +8,7 @@ ghost use Rattle.c_scopes.specs.Clauses.{Makes, OptionIn, Settles, type_or_none}
 ghost use Rattle.c_scopes.specs.Env.{BindingIn};
 ghost use Rattle.c_scopes.specs.Named.{named_of};
 ghost use Rattle.c_scopes.specs.Ruled.{verdict};
+ghost use Rattle.c_type_rules.specs.Arrays.{is_no_incomplete};
 ghost use Rattle.c_decl_rules.specs.Clauses as view;
 ghost use Rattle.c_decl_rules.specs.DeclaredNames as spec;
 
@@ -111,7 +112,7 @@ pub fn is_automatic(manner: Manner) -> bool
 // The type is complete, but for a length that is left out, or is a function's.
 fn is_no_incomplete(types: &TypeTable, of: TypeId) -> bool
     requires { IdIn types.now of }
-    ensures { result ≡ spec.is_no_incomplete (type_of types.now of) (structures_of types.now) }
+    ensures { result ≡ is_no_incomplete (type_of types.now of) (structures_of types.now) }
 {
     types.layout(of).is_some() || is_function(types, of) || is_without_length(types, of)
 }

@@ -22,10 +22,12 @@ fn same_quals(left: Quals, right: Quals) -> bool
 fn same_length(left: Option<u64>, right: Option<u64>) -> bool
     ensures { result ≡ spec.same_length left right }
 {
-    match (left, right) {
-        (Some(m), Some(n)) => m == n,
-        (None, None) => true,
-        _ => false,
+    match left {
+        None => right.is_none(),
+        Some(m) => match right {
+            None => false,
+            Some(n) => m == n,
+        },
     }
 }
 
