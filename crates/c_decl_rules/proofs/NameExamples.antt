@@ -286,11 +286,11 @@ library_static = refl
 
 -- an object of a block hides it
 library_in_block : name_rule [] (in_block None int) (around (library no_arguments)) ≡ Fits (ObjectOf int (record {
-      name = object.Slot 2;
-      register = false;
-      linkage = linkage.None;
-      standing = standing.Defined;
-    }))
+  name = object.Slot 2;
+  register = false;
+  linkage = linkage.None;
+  standing = standing.Defined;
+}))
 unfolding agree bare_agree all_agree composite_of bare_composite all_composites same same_bare all_same
 library_in_block = refl
 

@@ -8,7 +8,6 @@ pub mod linkage;
 pub mod names;
 pub mod objects;
 pub mod same_type;
-
 #[cfg(test)]
 mod tests;
 

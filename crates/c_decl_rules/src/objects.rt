@@ -132,9 +132,7 @@ fn has_length(types: &TypeTable, name: &Declaring) -> bool
     requires { IdIn types.now name.now.of }
     ensures { result ≡ spec.has_length (view.declares_of types.now name.now) }
 {
-    !(is_without_length(types, name.of)
-        && makes_object(name.manner)
-        && !name.manner.initialized)
+    !(is_without_length(types, name.of) && makes_object(name.manner) && !name.manner.initialized)
 }
 
 fn is_defined_standing(standing: Standing) -> bool

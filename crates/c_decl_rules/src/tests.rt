@@ -1,5 +1,7 @@
 //! Each kind of name once, with memory.
 
+ghost use Rattle.std.specs.Prelude.{◌≡◌};
+
 use crate::{Declaring, Manner, Visible, declare_name};
 use c_scopes::{Binding, Standing};
 use c_syntax::Storage;
@@ -29,16 +31,10 @@ const NEW: Visible = Visible {
     here: false,
 };
 
-fn standing_of(binding: Binding) -> Option<Standing> {
-    match binding {
-        Binding::Object(_, object) => Some(object.standing),
-        _ => None,
-    }
-}
-
+// The type of what is declared.
 fn type_of(binding: Binding) -> Option<TypeId> {
     match binding {
-        Binding::Object(of, _) | Binding::Function(of, _) | Binding::Typedef(of) => Some(of),
+        Binding::Function(of, _) | Binding::Typedef(of) => Some(of),
         _ => None,
     }
 }
@@ -51,15 +47,18 @@ fn an_array_gets_its_length_behind_its_first_declaration(rt: HostRuntime) -> Res
     let open = types.array(int, None)?;
     let three = types.array(int, Some(3))?;
     let first = declare_name(&mut types, &declaring(open, Some(Storage::Extern)), &NEW)?;
-    assert_eq!(rt; standing_of(first), Some(Standing::Declared));
     let seen = Visible {
         binding: Some(first),
         here: true,
     };
     let second = declare_name(&mut types, &declaring(three, None), &seen)?;
-    assert_eq!(rt; standing_of(second), Some(Standing::Tentative));
-    let whole = type_of(second).and_then(|of| types.size_of(of));
-    assert_eq!(rt; whole, Some(12));
+    match second {
+        Binding::Object(of, object) => {
+            assert_eq!(rt; types.size_of(of), Some(12));
+            assert_eq!(rt; object.standing, Standing::Tentative);
+        }
+        _ => assert!(rt; false),
+    }
     Ok(())
 }
 

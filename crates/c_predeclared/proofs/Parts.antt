@@ -1,7 +1,8 @@
 -- How a table makes the types of prototypes.
-use Rattle.std.proofs.Common.{◌≡◌, ◌∙◌, ◌<◌, List, [], ◌∷◌, ◌++◌, map, refl, ap, arith}
+use Rattle.std.proofs.Common.{◌≡◌, ◌∙◌, ◌<◌, List, [], ◌∷◌, ◌++◌, map, refl, ap, sym, arith}
+use Rattle.std.proofs.Common.{ℕ, ◌+◌, length, take, get_or}
 use Rattle.std.specs.Prelude.{All, false}
-use Rattle.std.proofs.lemmas.List.{map-append}
+use Rattle.std.proofs.lemmas.List.{map-append, take_more}
 use Rattle.std.proofs.lemmas.List.Elements.{All-head, All-tail, All-nil, All-push, All-weaker}
 use Rattle.c_types.specs.declared.shape.TypeId.{TypeId}
 use Rattle.c_types.specs.CType.{CType, CTypes, Plain, Function, Cons, no_quals, all_types, type_at, type_of, types_at}
@@ -49,11 +50,21 @@ parts_more parts part old mid new made id before one = record {
       ∙ ap (λ (all : List CType). all ++ type_of new id ∷ [])
       (all_stay mid new one.kept.grows made before.are_in ∙ before.are)
       ∙ ap (λ (type : CType). map part_type parts ++ type ∷ []) one.is
-      ∙ (λ i. map-append part_type parts (part ∷ []) (~ i));
+      ∙ sym (map-append part_type parts (part ∷ []));
   are_in = All-push (λ (id : TypeId). IdIn new id) made id
       (all_stay_in mid new one.kept.grows made before.are_in) one.is_in;
   kept = keeps_then old mid new before.kept one.kept;
 }
+
+-- that of the next part of a list is made
+pub parts_next : (parts : List Part) (i : ℕ) (part : Part) {old mid new : Types} {made more : List TypeId} {id : TypeId}
+    → i < length parts → MakesParts (take i parts) old mid made
+    → Makes type_of IdIn (part_type (get_or parts i part)) mid new id → more ≡ made ++ id ∷ []
+    → MakesParts (take (i + 1) parts) old new more
+parts_next parts i part {old = old} {mid = mid} {new = new} {made = made} {id = id} below before one more =
+    let all = parts_more (take i parts) (get_or parts i part) old mid new made id before one in
+    let next = take_more parts i part below in
+    rw (next, more) all
 
 -- ---- the function
 
@@ -62,15 +73,17 @@ types_listed all [] = refl
 types_listed all (id ∷ ids) = ap (Cons (type_at all id)) (types_listed all ids)
 
 -- from its parameters, what it gives, and the table that has it
-pub function_made : (parts : List Part) (part : Part) (old mid there new : Types) (ids : List TypeId) (gives id : TypeId)
-    → MakesParts parts old mid ids → Makes type_of IdIn (part_type part) mid there gives
-    → MakesType there new id (Plain (Function (type_of there gives) (types_at (all_types there) ids) false) no_quals)
+pub function_made : (parts : List Part) (part : Part) {old mid there new : Types} {ids list : List TypeId}
+    {gives id : TypeId} → MakesParts parts old mid ids → Makes type_of IdIn (part_type part) mid there gives
+    → list ≡ ids
+    → MakesType there new id (Plain (Function (type_of there gives) (types_at (all_types there) list) false) no_quals)
     → Makes type_of IdIn (prototype_type part parts) old new id
-function_made parts part old mid there new ids gives id all one function = record {
+function_made parts part {old = old} {mid = mid} {there = there} {new = new} {ids = ids} {list = list} all one same function =
+    record {
   is = function.stands_for
-      ∙ ap (λ (type : CType). Plain (Function type (types_at (all_types there) ids) false) no_quals) one.is
-      ∙ ap (λ (list : CTypes). Plain (Function (part_type part) list false) no_quals)
-      (types_listed (all_types there) ids
+      ∙ ap (λ (type : CType). Plain (Function type (types_at (all_types there) list) false) no_quals) one.is
+      ∙ ap (λ (parameters : CTypes). Plain (Function (part_type part) parameters false) no_quals)
+      (ap (types_at (all_types there)) same ∙ types_listed (all_types there) ids
       ∙ ap types (all_stay mid there one.kept.grows ids all.are_in ∙ all.are));
   is_in = function.is_there;
   kept = keeps_then old there new (keeps_then old mid there all.kept one.kept) (record {

@@ -11,7 +11,7 @@ ghost use Rattle.c_predeclared.specs.Predeclared as spec;
 ghost use Rattle.c_predeclared.specs.Prototypes.{prototyped};
 
 use crate::binding::bind_one;
-use crate::prototypes::{Part, Prototype, object_pointer, prototype_type};
+use crate::prototypes::{Part, object_pointer, prototype_type};
 use c_conversions::value::pointer_to;
 use c_core::FunctionName;
 use c_scopes::{Binding, DeclaredFunction, Linkage, Scopes};
@@ -75,7 +75,8 @@ fn bind_function(
     function: (RowName, u16, Part, &[Part]),
 ) -> Result<(), AllocError>
     requires { ScopesIn types.old scopes.old }
-    ensures { OnOk result (Binds (prototyped function.0 function.1 function.2 function.3.now ∷ []) scopes.old
+    ensures { OnOk result (Binds (prototyped function.entry.0 function.entry.1 function.entry.2 function.entry.3.now ∷ [])
+        scopes.old
         types.old scopes.new types.new) }
 {
     let (row, number, gives, parameters) = function;

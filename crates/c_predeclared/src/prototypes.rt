@@ -5,6 +5,7 @@ ghost use Rattle.c_types.specs.CType.{type_of, void};
 ghost use Rattle.c_core.specs.Ids.{IdIn};
 ghost use Rattle.c_scopes.specs.Clauses.{Makes};
 ghost use Rattle.library_types.specs.LibraryTypes.{const_char, to};
+ghost use Rattle.c_predeclared.specs.Predeclared.{basic_type};
 ghost use Rattle.c_predeclared.specs.Prototypes as spec;
 
 use c_conversions::value::{pointer_to, qualified};
@@ -49,7 +50,7 @@ pub(crate) fn object_pointer(types: &mut TypeTable) -> Result<TypeId, AllocError
 // A basic type.
 #[tactic(auto, using(c_scopes::proofs::Keeps::keeps_own))]
 fn basic_type(types: &TypeTable, basic: Basic) -> TypeId
-    ensures { Makes type_of IdIn (spec.basic_type basic) types.now types.now result }
+    ensures { Makes type_of IdIn (basic_type basic) types.now types.now result }
 {
     types.basic(basic)
 }

@@ -9,4 +9,4 @@ returns c = binds_one c.args.types.now c.args.scopes.now c.bind.new.self c.args.
     c.requires.here c.requires.binding c.requires.name
     (c.in_ok-bind.ensures
     ∙ ap (λ n. bound c.args.scopes.now (is_tag c.args.binding) n c.args.binding)
-    (c.in_ok-name.ensures ∙ c.as_bytes.ensures))
+    (c.in_ok-name.ensures ∙ c.as_bytes.ensures.value))
