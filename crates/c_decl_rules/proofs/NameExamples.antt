@@ -11,7 +11,6 @@ use Rattle.c_core.specs.declared.named.FunctionName.TheVariants as function
 use Rattle.c_core.specs.declared.named.ObjectName.TheVariants as object
 use Rattle.c_syntax.specs.declared.specifier.Storage.{Storage}
 use Rattle.c_syntax.specs.declared.specifier.Storage.TheVariants as storage
-use Rattle.c_scopes.specs.declared.binding.DeclaredObject.{DeclaredObject}
 use Rattle.c_scopes.specs.declared.binding.Linkage.{Linkage}
 use Rattle.c_scopes.specs.declared.binding.Linkage.TheVariants as linkage
 use Rattle.c_scopes.specs.declared.binding.Standing.{Standing}

@@ -1,7 +1,6 @@
 -- What the program holds of declared names, as the rules see it.
 use Rattle.std.specs.Prelude.{Option, Result, IfSome, option_map}
 use Rattle.critical_table.specs.declared.pos.Pos.{Pos}
-use Rattle.c_types.specs.declared.shape.TypeId.{TypeId}
 use Rattle.c_types.specs.CType.{type_of}
 use Rattle.c_types.specs.Types.{Types}
 use Rattle.c_core.specs.declared.fault.TypeFault.{TypeFault}

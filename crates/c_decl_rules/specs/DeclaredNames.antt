@@ -2,11 +2,10 @@
 use Rattle.std.specs.Prelude.{ℕ, Bool, true, false, not, ◌&&◌, ◌||◌, List, [], ◌∷◌, Option, Some, None}
 use Rattle.std.specs.Prelude.{if◌then◌else◌}
 use Rattle.critical_table.specs.declared.pos.Pos.{Pos}
-use Rattle.c_types.specs.CType.{CType, type_of}
+use Rattle.c_types.specs.CType.{CType}
 use Rattle.c_types.specs.Compatible.{compatible}
 use Rattle.c_types.specs.Composite.{composite_of}
 use Rattle.c_types.specs.Structures.{Structure}
-use Rattle.c_types.specs.Types.{Types}
 use Rattle.c_core.specs.declared.named.FunctionName.{FunctionName}
 use Rattle.c_core.specs.declared.named.FunctionName.TheVariants as function
 use Rattle.c_core.specs.declared.named.ObjectName.{ObjectName}
@@ -19,7 +18,7 @@ use Rattle.c_scopes.specs.declared.binding.Linkage.{Linkage}
 use Rattle.c_scopes.specs.declared.binding.Linkage.TheVariants as linkage
 use Rattle.c_scopes.specs.declared.binding.Standing.{Standing}
 use Rattle.c_scopes.specs.declared.binding.Standing.TheVariants as standing
-use Rattle.c_scopes.specs.Named.{Named, ObjectOf, FunctionOf, TypedefOf, named_of}
+use Rattle.c_scopes.specs.Named.{Named, ObjectOf, FunctionOf, TypedefOf}
 use Rattle.c_scopes.specs.Ruled.{Ruled, Demand, ruled}
 use Rattle.c_conversions.specs.Versions.{is_function, is_void}
 use Rattle.c_type_rules.specs.declared.context.Setting.{Setting}

@@ -7,9 +7,9 @@ use Rattle.std.proofs.lemmas.List.Elements.{All-head, All-tail, All-nil, All-pus
 use Rattle.c_types.specs.declared.shape.TypeId.{TypeId}
 use Rattle.c_types.specs.CType.{CType, CTypes, Plain, Function, Cons, no_quals, all_types, type_at, type_of, types_at}
 use Rattle.c_types.specs.Making.{Grows, MakesType}
-use Rattle.c_types.specs.Types.{Types, count_of}
+use Rattle.c_types.specs.Types.{Types}
 use Rattle.c_core.specs.Ids.{IdIn}
-use Rattle.c_scopes.specs.Clauses.{KeepsTable, Makes}
+use Rattle.c_scopes.specs.Clauses.{Makes}
 use Rattle.c_scopes.proofs.Keeps.{keeps_own, keeps_then}
 use Rattle.library_types.specs.LibraryTypes.{types}
 use Rattle.c_predeclared.specs.declared.prototypes.Part.{Part}
@@ -80,15 +80,15 @@ pub function_made : (parts : List Part) (part : Part) {old mid there new : Types
     → Makes type_of IdIn (prototype_type part parts) old new id
 function_made parts part {old = old} {mid = mid} {there = there} {new = new} {ids = ids} {list = list} all one same function =
     record {
-  is = function.stands_for
-      ∙ ap (λ (type : CType). Plain (Function type (types_at (all_types there) list) false) no_quals) one.is
-      ∙ ap (λ (parameters : CTypes). Plain (Function (part_type part) parameters false) no_quals)
-      (ap (types_at (all_types there)) same ∙ types_listed (all_types there) ids
-      ∙ ap types (all_stay mid there one.kept.grows ids all.are_in ∙ all.are));
-  is_in = function.is_there;
-  kept = keeps_then old there new (keeps_then old mid there all.kept one.kept) (record {
-    grows = function.grows;
-    structures = function.structures;
-    enumerations = function.enumerations;
-  });
-}
+      is = function.stands_for
+          ∙ ap (λ (type : CType). Plain (Function type (types_at (all_types there) list) false) no_quals) one.is
+          ∙ ap (λ (parameters : CTypes). Plain (Function (part_type part) parameters false) no_quals)
+          (ap (types_at (all_types there)) same ∙ types_listed (all_types there) ids
+          ∙ ap types (all_stay mid there one.kept.grows ids all.are_in ∙ all.are));
+      is_in = function.is_there;
+      kept = keeps_then old there new (keeps_then old mid there all.kept one.kept) (record {
+        grows = function.grows;
+        structures = function.structures;
+        enumerations = function.enumerations;
+      });
+    }

@@ -8,10 +8,10 @@ use Rattle.c_predeclared.specs.Predeclared.{NamedList, all_bound, predeclared_sc
 
 -- The names have been bound, and nothing but types was made.
 pub record Binds (names : NamedList) (before : List Scope) (old : Types) (after : List Scope) (new : Types) : Type 0
-    where
-  pub is : map (names_of new) after ≡ all_bound names (map (names_of old) before)
-  pub here : ScopesIn new after
-  pub kept : KeepsTable old new
+  where
+    pub is : map (names_of new) after ≡ all_bound names (map (names_of old) before)
+    pub here : ScopesIn new after
+    pub kept : KeepsTable old new
 
 -- Scopes with the predeclared names alone, and a table that has made nothing but types.
 pub record IsPredeclared (scopes : List Scope) (old new : Types) : Type 0 where

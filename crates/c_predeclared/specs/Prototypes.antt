@@ -1,6 +1,5 @@
 -- The types of library functions, by their prototypes.
 use Rattle.std.specs.Prelude.{◌≡◌, ℕ, List, All, map}
-use Rattle.c_types.specs.declared.basic.Basic.TheVariants as b
 use Rattle.c_types.specs.declared.shape.TypeId.{TypeId}
 use Rattle.c_types.specs.CType.{CType, type_of, void}
 use Rattle.c_types.specs.Types.{Types}

@@ -7,7 +7,6 @@ pub mod law;
 pub mod names;
 pub mod predeclared_scope;
 pub mod prototypes;
-
 #[cfg(test)]
 mod tests;
 
