@@ -1,0 +1,2 @@
+pub mod AddingUp
+pub mod Parts
