@@ -1,3 +1,4 @@
+pub mod AddedMembers
 pub mod Becoming
 pub mod Bodies
 pub mod BoundEnumerators

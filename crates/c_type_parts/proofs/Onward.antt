@@ -11,8 +11,8 @@ use Rattle.c_scopes.specs.Clauses.{BreaksAt, Follows}
 use Rattle.c_scopes.specs.Ruled.{Ruled, Fits}
 use Rattle.c_scopes.specs.Scopes.{Scope}
 use Rattle.c_scopes.proofs.Growth.{env_kept, scopes_stay_in}
-use Rattle.c_type_parts.specs.Answers.{Answer, and_then, settle}
-use Rattle.c_type_parts.specs.Clauses.{Given, Refused, Answers}
+use Rattle.c_type_parts.specs.Answers.{Answer, Gives, and_then, settle}
+use Rattle.c_type_parts.specs.Clauses.{Becomes, Given, Refused, Answers}
 use Rattle.c_type_parts.proofs.Steps.{then_given, refused_then, fits_given, breaks_refused}
 
 -- The answer is what is left of the walk in these scopes and this table, which have grown from the old one.
@@ -91,3 +91,19 @@ module _ {A B : Type 0} (rule : Ruled A) (at : Pos) (next : A → Env → Answer
     here = scopes_stay_in now new follows.kept.grows scopes on.here;
     grown = grows_then old now new on.grown follows.kept.grows;
   }
+
+-- what is left, by another name
+pub onward_as : {A : Type 0} (whole left other : Answer A) (old : Types) (scopes : List Scope) (types : Types)
+    → left ≡ other → Onward whole left old scopes types → Onward whole other old scopes types
+onward_as whole left other old scopes types e on = record { is = on.is ∙ e; here = on.here; grown = on.grown }
+
+-- the end, behind a change of what is in scope
+pub becomes_given : {A : Type 0} (whole : Answer A) (a : A) (In : Types → Type 0) (env : Env) (old now new : Types)
+    (before after : List Scope) → Onward whole (Gives a env) old before now → Becomes env now after new → In new
+    → Given whole a In old after new
+becomes_given whole a In env old now new before after on becomes is_in = record {
+  is = on.is ∙ ap (Gives a) (sym becomes.is);
+  is_in = is_in;
+  here = becomes.here;
+  grown = grows_then old now new on.grown becomes.grown;
+}

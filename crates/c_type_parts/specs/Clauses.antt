@@ -56,3 +56,6 @@ AnswersUnit = Answers (λ types done. done) (λ types done. Unit {0})
 
 abbrev pub AnswersNumber : Answer ℤ → Types → List Scope → Types → Result ℤ TypeFault → Type 0
 AnswersNumber = Answers (λ types n. n) (λ types n. Unit {0})
+
+abbrev pub AnswersValue : Answer (Option ℤ) → Types → List Scope → Types → Result (Option ℤ) TypeFault → Type 0
+AnswersValue = Answers (λ types value. value) (λ types value. Unit {0})

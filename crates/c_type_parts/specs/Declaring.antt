@@ -19,6 +19,7 @@ use Rattle.c_conversions.specs.Versions.{is_void, are_none}
 use Rattle.c_type_rules.specs.Arrays.{array_rule}
 use Rattle.c_type_rules.specs.Enumerators.{enumerator_rule, enumerator}
 use Rattle.c_type_rules.specs.Functions.{function_rule, parameter_rule}
+use Rattle.c_type_rules.specs.Members.{member_rule}
 use Rattle.c_type_rules.specs.Qualified.{pointer_rule}
 use Rattle.c_type_parts.specs.declared.derivations.Around.{Around}
 use Rattle.c_type_parts.specs.Answers.{Answer, Gives, and_then, settle}
@@ -168,6 +169,12 @@ with_member earlier name type = record { names = earlier.names ++ name ∷ []; t
 abbrev pub name_or_none : Option (Pos × List ℕ) → List ℕ
 name_or_none None = []
 name_or_none (Some name) = name.1
+
+-- a member of that name and type behind others
+abbrev pub member_added : Pos → List ℕ → CType → TypedMembers → Env → Answer TypedMembers
+member_added at name type earlier env =
+    and_then (settle at env (member_rule env.structures earlier.names name type))
+    (λ stands env. Gives (with_member earlier name type) env)
 
 -- ---- enumerators (6.7.2.2)
 

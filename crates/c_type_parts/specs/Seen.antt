@@ -70,3 +70,12 @@ members_of types members = record { names = members.names; types = map (type_of 
 
 abbrev pub MembersIn : Types → MembersSoFar → Type 0
 MembersIn types members = All (λ (id : TypeId). IdIn types id) members.types
+
+abbrev pub AnswersMembers : Answer TypedMembers → Types → List Scope → Types → Result MembersSoFar TypeFault → Type 0
+AnswersMembers = Answers members_of MembersIn
+
+-- members that others have joined
+abbrev pub AnswersMore : Answer TypedMembers → MembersSoFar → Types → List Scope → Types
+    → Result (Unit {0}) TypeFault → Type 0
+AnswersMore answer members =
+    Answers (λ types done. members_of types members) (λ types done. MembersIn types members) answer

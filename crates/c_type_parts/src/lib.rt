@@ -2,6 +2,7 @@
 //! (6.7.2 to 6.7.6).
 #![tactic(auto)]
 
+pub mod adding;
 pub mod completing;
 pub mod derivations;
 pub mod enumerating;
