@@ -130,7 +130,8 @@ unfolding agree bare_agree all_agree composite_of bare_composite all_composites 
 defined_behind = refl
 
 -- int x = 1; int x = 1;
-defined_twice : name_rule [] (initialized None int) (here (known_object linkage.External standing.Defined int)) ≡ Breaks 20
+defined_twice : name_rule [] (initialized None int) (here (known_object linkage.External standing.Defined int)) ≡
+    Breaks 20
 unfolding agree bare_agree all_agree composite_of bare_composite all_composites same same_bare all_same
 defined_twice = refl
 
@@ -141,12 +142,14 @@ another_type = refl
 
 -- static int x; extern int x;
 extern_behind_static : name_rule [] (in_file (Some storage.Extern) int)
-    (here (known_object linkage.Internal standing.Tentative int)) ≡ Fits (known_object linkage.Internal standing.Tentative int)
+    (here (known_object linkage.Internal standing.Tentative int)) ≡ Fits
+    (known_object linkage.Internal standing.Tentative int)
 unfolding agree bare_agree all_agree composite_of bare_composite all_composites same same_bare all_same
 extern_behind_static = refl
 
 -- static int x; int x;
-plain_behind_static : name_rule [] (in_file None int) (here (known_object linkage.Internal standing.Tentative int)) ≡ Breaks 2
+plain_behind_static : name_rule [] (in_file None int) (here (known_object linkage.Internal standing.Tentative int)) ≡
+    Breaks 2
 unfolding agree bare_agree all_agree composite_of bare_composite all_composites same same_bare all_same
 plain_behind_static = refl
 
@@ -258,7 +261,8 @@ initialized_function = refl
 -- ---- library
 
 -- a library function is declared with its type, and stays it
-library_declared : name_rule [] (in_file None no_arguments) (around (library no_arguments)) ≡ Fits (library no_arguments)
+library_declared : name_rule [] (in_file None no_arguments) (around (library no_arguments)) ≡ Fits
+    (library no_arguments)
 unfolding agree bare_agree all_agree composite_of bare_composite all_composites same same_bare all_same
 library_declared = refl
 
@@ -273,12 +277,14 @@ unfolding agree bare_agree all_agree composite_of bare_composite all_composites 
 library_object = refl
 
 -- it is defined
-library_defined : name_rule [] (declares s.Definition None false no_arguments) (around (library no_arguments)) ≡ Breaks 18
+library_defined : name_rule [] (declares s.Definition None false no_arguments) (around (library no_arguments)) ≡
+    Breaks 18
 unfolding agree bare_agree all_agree composite_of bare_composite all_composites same same_bare all_same
 library_defined = refl
 
 -- static: a function of the unit's own
-library_static : name_rule [] (in_file (Some storage.Static) one_argument) (around (library no_arguments)) ≡ Fits (FunctionOf
+library_static : name_rule [] (in_file (Some storage.Static) one_argument) (around (library no_arguments)) ≡ Fits
+    (FunctionOf
     one_argument (record { name = function.Unit (at 5); linkage = linkage.Internal; is_defined = false }))
 unfolding agree bare_agree all_agree composite_of bare_composite all_composites same same_bare all_same
 library_static = refl

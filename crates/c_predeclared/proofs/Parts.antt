@@ -21,10 +21,12 @@ module _ (old new : Types) (grows : Grows old new) where
   stays_in : (id : TypeId) → IdIn old id → IdIn new id
   stays_in id h = let count = grows.types.count in omega (arith, h, count)
 
-  pub all_stay_in : (ids : List TypeId) → All (λ (id : TypeId). IdIn old id) ids → All (λ (id : TypeId). IdIn new id) ids
+  pub all_stay_in : (ids : List TypeId) → All (λ (id : TypeId). IdIn old id) ids → All (λ (id : TypeId). IdIn new id)
+      ids
   all_stay_in ids h = All-weaker (λ (id : TypeId). IdIn old id) (λ (id : TypeId). IdIn new id) stays_in ids h
 
-  all_stay : (ids : List TypeId) → All (λ (id : TypeId). IdIn old id) ids → map (type_of new) ids ≡ map (type_of old) ids
+  all_stay : (ids : List TypeId) → All (λ (id : TypeId). IdIn old id) ids → map (type_of new) ids ≡ map (type_of old)
+      ids
   all_stay [] h = refl
   all_stay (id ∷ ids) h =
       let first = All-head (λ (id : TypeId). IdIn old id) id ids h in
@@ -78,7 +80,8 @@ pub function_made : (parts : List Part) (part : Part) {old mid there new : Types
     → list ≡ ids
     → MakesType there new id (Plain (Function (type_of there gives) (types_at (all_types there) list) false) no_quals)
     → Makes type_of IdIn (prototype_type part parts) old new id
-function_made parts part {old = old} {mid = mid} {there = there} {new = new} {ids = ids} {list = list} all one same function =
+function_made parts part {old = old} {mid = mid} {there = there} {new = new} {ids = ids} {list = list} all one same
+    function =
     record {
       is = function.stands_for
           ∙ ap (λ (type : CType). Plain (Function type (types_at (all_types there) list) false) no_quals) one.is

@@ -1,4 +1,5 @@
--- The names that stand in the scope around the file scope: types, constants and functions of the library (7.1.2). A name
+-- The names that stand in the scope around the file scope: types, constants and functions of the library (7.1.2). A
+-- name
 -- is a line.
 use Rattle.std.specs.Prelude.{◌≡◌, ℕ, ℤ, pos, negsuc, false, List, [], ◌∷◌, ◌++◌, map, Some, codes}
 use Rattle.c_types.specs.declared.basic.Basic.{Basic}

@@ -75,7 +75,8 @@ fn bind_function(
     function: (RowName, u16, Part, &[Part]),
 ) -> Result<(), AllocError>
     requires { ScopesIn types.old scopes.old }
-    ensures { OnOk result (Binds (prototyped function.entry.0 function.entry.1 function.entry.2 function.entry.3.now ∷ [])
+    ensures { OnOk result (Binds (prototyped function.entry.0 function.entry.1 function.entry.2 function.entry.3.now
+        ∷ [])
         scopes.old
         types.old scopes.new types.new) }
 {

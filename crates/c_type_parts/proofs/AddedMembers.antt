@@ -51,7 +51,7 @@ module _ (at : Pos) (name : List ℕ) (of : TypeId) (found more : MembersSoFar) 
           types = sym (types_more types found.types of) i;
         }) (env_of scopes types))
         ∙ ap (λ (all : MembersSoFar). Gives (members_of types all) (env_of scopes types)) (sym pushed);
-    is_in = subst (λ (all : MembersSoFar). MembersIn types all) (sym pushed) 
+    is_in = subst (λ (all : MembersSoFar). MembersIn types all) (sym pushed)
         (All-push (λ (id : TypeId). IdIn types id) found.types of found_in is_in);
     here = here;
     grown = grows_own types;

@@ -102,7 +102,8 @@ module _ (union : Bool) (at : Pos) (of : TypeId) (members : MembersSoFar) (scope
 
   in_kind : content ≡ Fits tt → body_in old (type_of old of) members ≡ body
   in_kind e = ap (λ (u : Bool). body_rule u members.names (map (type_of old) members.types) (structures_of old))
-      (kind_of union (type_of old of) (structures_of old) (content_so union members.names (type_of old of) (structures_of old) e).0)
+      (kind_of union (type_of old of) (structures_of old) (content_so union members.names (type_of old of)
+      (structures_of old) e).0)
 
   abbrev pub whole : Answer (Unit {0})
   whole = body_ended union at (type_of old of) (members_of old members) (env_of scopes old)
@@ -113,7 +114,8 @@ module _ (union : Bool) (at : Pos) (of : TypeId) (members : MembersSoFar) (scope
   pub content_breaks : (fault : TypeFault)
       → BreaksAt content at fault
       → Refused whole fault
-  content_breaks fault breaks = rule_breaks content at behind whole old old scopes fault (onward whole scopes old here) breaks
+  content_breaks fault breaks = rule_breaks content at behind whole old old scopes fault
+      (onward whole scopes old here) breaks
 
   changed : (completed : Completed (type_of old of) members old new)
       → env_of scopes new ≡ with_structure (number_in (type_of old of)) completed.structure (env_of scopes old)
@@ -126,7 +128,8 @@ module _ (union : Bool) (at : Pos) (of : TypeId) (members : MembersSoFar) (scope
   pub body_answers : (result : Result (Unit {0}) TypeFault) → content ≡ Fits tt
       → RulesBody (type_of old of) members at old new result → AnswersUnit whole old scopes new result
   body_answers (Ok done) e completed =
-      let on = rule_fits body at ended whole old old scopes completed.structure (fits e) (sym (in_kind e) ∙ completed.is) in
+      let on = rule_fits body at ended whole old old scopes completed.structure (fits e)
+      (sym (in_kind e) ∙ completed.is) in
       record {
         is = on.is ∙ ap (Gives tt) (sym (changed completed));
         is_in = tt;

@@ -94,7 +94,8 @@ module _ (alone : Bool) (specifiers : Specifiers) (declarator : Declarator) (num
       rule_breaks (parameter_rule type) (first_place specifiers) named_on whole old old scopes fault begun
       (subst (λ (place : Pos). BreaksAt (parameter_rule type) place fault) placed breaks)
 
-  module _ (mid : Types) (of : TypeId) (follows : Follows (parameter_rule type) (type_of mid of) (λ t. IdIn t of) old mid)
+  module _ (mid : Types) (of : TypeId) (follows : Follows (parameter_rule type) (type_of mid of) (λ t. IdIn t of) old
+      mid)
       (object : Named)
       (same : object ≡ parameter_object (type_of mid of) (holds_register specifiers) number) where
     adjusted_on : Onward whole (named_on (type_of mid of) (env_of scopes mid)) old scopes mid
@@ -123,5 +124,6 @@ module _ (alone : Bool) (specifiers : Specifiers) (declarator : Declarator) (num
         → Given whole (Some (type_of mid of)) (λ t. IdIn t of) old after mid
     name_given after given =
         let on = part_given (with_parameter (name_in declarator) object (env_of scopes mid))
-        (λ done env. Gives (Some (type_of mid of)) env) whole old mid scopes tt (λ t. Unit {0}) after mid object_on given
+        (λ done env. Gives (Some (type_of mid of)) env) whole old mid scopes tt (λ t. Unit {0}) after mid object_on
+        given
         in record { is = on.is; is_in = follows.is_in; here = on.here; grown = on.grown }

@@ -45,7 +45,8 @@ module _ (old new : Types) (grown : Grows old new) where
   derivation_stays (d.Array length) h = refl
   derivation_stays (d.Function list) h = λ i. ToFunction (ids_stay list.types.items h i) list.variadic list.may_vary
 
-  pub ids_stay_in : (ids : List TypeId) → All (λ (id : TypeId). IdIn old id) ids → All (λ (id : TypeId). IdIn new id) ids
+  pub ids_stay_in : (ids : List TypeId) → All (λ (id : TypeId). IdIn old id) ids → All (λ (id : TypeId). IdIn new id)
+      ids
   ids_stay_in ids h = All-weaker (λ (id : TypeId). IdIn old id) (λ (id : TypeId). IdIn new id) id_stays_in ids h
 
   pub derivation_stays_in : (derivation : Code) → DerivationIn old derivation → DerivationIn new derivation
@@ -58,7 +59,8 @@ pub split : (all : List e.Derived) (first : e.Derived) → first ≡ get_or all 
     → all ≡ first ∷ take (length all - 1) (drop 1 all)
 split [] first same h = absurd (omega (arith, h))
 split (x ∷ xs) first same h =
-    ap (λ (d : e.Derived). d ∷ xs) (sym same) ∙ ap (λ (rest : List e.Derived). first ∷ rest) (sym (take_rest (x ∷ xs) 1))
+    ap (λ (d : e.Derived). d ∷ xs) (sym same) ∙ ap (λ (rest : List e.Derived). first ∷ rest)
+    (sym (take_rest (x ∷ xs) 1))
 
 module _ (site : DerivationSite) (base : TypeId) (scopes : List Scope) (old : Types) where
   abbrev pub from : List e.Derived → Answer CType
@@ -98,7 +100,8 @@ module _ (site : DerivationSite) (base : TypeId) (scopes : List Scope) (old : Ty
   outer_given first outer mid new of result is_in given rules =
       let on : Onward (from (first ∷ outer)) (behind first (type_of mid of) (env_of scopes mid)) old scopes mid =
       record {
-        is = from_more first outer ∙ then_given (from outer) (type_of mid of) (env_of scopes mid) (behind first) given.is;
+        is = from_more first outer ∙ then_given (from outer) (type_of mid of) (env_of scopes mid) (behind first)
+            given.is;
         here = given.here;
         grown = given.grown;
       } in

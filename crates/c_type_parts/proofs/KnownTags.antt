@@ -112,7 +112,8 @@ enumerators_of_new tag before after old new id fits made = record {
 
 -- what is made without a tag
 pub made_given : (type : CType) (after : Env) (scopes : List Scope) (old new : Types) (id : TypeId)
-    → BecomesWith type after old scopes new id → Given (Gives type after) (type_of new id) (λ t. IdIn t id) old scopes new
+    → BecomesWith type after old scopes new id → Given (Gives type after) (type_of new id) (λ t. IdIn t id) old
+    scopes new
 made_given type after scopes old new id made = record {
   is = λ i. Gives (sym made.stands_for i) (sym made.becomes.is i);
   is_in = made.is_in;

@@ -94,7 +94,8 @@ pub fn derived_type(
 ) -> Result<TypeId, TypeFault>
     requires base { IdIn types.old base }
     requires all { DerivedIn types.old all.now }
-    ensures { (scopes : List Scope) → ScopesIn types.old scopes → AnswersType (spec.derived_type site.name_at site.around
+    ensures { (scopes : List Scope) → ScopesIn types.old scopes → AnswersType
+        (spec.derived_type site.name_at site.around
         (type_of types.old base) (derived_list types.old all.now) (env_of scopes types.old)) types.old scopes types.new
         result }
 {

@@ -110,7 +110,8 @@ fn bind_parameter(
 ) -> Result<(), TypeFault>
     requires here { ScopesIn types.now scopes.old }
     requires object { BindingIn types.now object }
-    ensures { AnswersUnit (spec.with_parameter (shape.name_in (declarator_of declarator.now)) (named_of types.now object)
+    ensures { AnswersUnit (spec.with_parameter (shape.name_in (declarator_of declarator.now))
+        (named_of types.now object)
         (env_of scopes.old types.now)) types.now scopes.new types.now result }
 {
     match name_in(declarator) {

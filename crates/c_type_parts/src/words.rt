@@ -46,7 +46,8 @@ pub fn storage_seen(
     word: Storage,
 ) -> Result<Before, TypeFault>
     ensures { (scopes : List Scope) (types : Types) → ScopesIn types scopes → IdIn types before.of
-        → AnswersBefore (spec.storage_on setting (before_of types before) pos word (env_of scopes types)) types scopes types
+        → AnswersBefore (spec.storage_on setting (before_of types before) pos word (env_of scopes types)) types
+        scopes types
         result }
 {
     match storage_word(setting, before.storage, word, pos) {
@@ -70,7 +71,8 @@ pub fn qualifier_seen(
     requires typedef { OptionIn types.now site.outline.now.typedef }
     requires before { IdIn types.now site.before.of }
     ensures { (scopes : List Scope) → ScopesIn types.now scopes
-        → AnswersBefore (spec.qualifier_on (outline_of types.now site.entry.outline.now) (before_of types.now site.entry.before) pos
+        → AnswersBefore (spec.qualifier_on (outline_of types.now site.entry.outline.now)
+        (before_of types.now site.entry.before) pos
         word (env_of scopes types.now)) types.now scopes types.now result }
 {
     match restrict(types, pos, site.outline.typedef, word) {
@@ -84,7 +86,8 @@ pub fn qualifier_seen(
 /// Constraint 13 as its rule has it.
 pub fn inline_seen(site: SpecifierSite<'_>, pos: Pos) -> Result<Before, TypeFault>
     ensures { (scopes : List Scope) (types : Types) → ScopesIn types scopes → IdIn types site.entry.before.of
-        → AnswersBefore (spec.inline_on site.entry.context (outline_of types site.entry.outline.now) (before_of types site.entry.before) pos
+        → AnswersBefore (spec.inline_on site.entry.context (outline_of types site.entry.outline.now)
+        (before_of types site.entry.before) pos
         (env_of scopes types)) types scopes types result }
 {
     match inline_word(site.context, site.outline.is_static, pos) {
@@ -129,7 +132,8 @@ fn first_basic(types: &TypeTable, site: SpecifierSite<'_>, pos: Pos) -> Result<B
 pub fn typedef_used(types: &TypeTable, outline: &Outline, pos: Pos) -> Result<TypeId, TypeFault>
     requires typedef { OptionIn types.now outline.now.typedef }
     ensures { (scopes : List Scope) → ScopesIn types.now scopes
-        → AnswersType (settle pos (env_of scopes types.now) (spec.typedef_rule (outline_of types.now outline.now).typedef))
+        → AnswersType (settle pos (env_of scopes types.now) (spec.typedef_rule
+        (outline_of types.now outline.now).typedef))
         types.now scopes types.now result }
 {
     let _types = types;

@@ -9,6 +9,7 @@ loop-entry-init c = binds_none _ _ c.requires
 
 pub loop-entry-preserved : goal.loop-entry-preserved
 loop-entry-preserved c =
-    binds_more (λ row. spec.constant row.0.now row.1 row.2) c.args.names.now c.loop-entry.entry-index _ c.loop-entry-test.true
+    binds_more (λ row. spec.constant row.0.now row.1 row.2) c.args.names.now c.loop-entry.entry-index _
+    c.loop-entry-test.true
     c.loop-entry.invariant
     (binds_constant c.basic.ensures.stands_for (search rules) c.in_ok-bind_one.ensures)

@@ -6,4 +6,5 @@ use Rattle.c_predeclared.proofs.binding.bind_types.Given as goal
 
 abbrev pub invariant-loop-entry : goal.invariant-loop-entry
 invariant-loop-entry l =
-    Binds (map (λ row. spec.type row.0.now row.1) (take l.entry-index l.names)) l.initial.scopes l.types l.scopes l.types
+    Binds (map (λ row. spec.type row.0.now row.1) (take l.entry-index l.names)) l.initial.scopes l.types l.scopes
+    l.types
