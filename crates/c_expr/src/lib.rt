@@ -3,6 +3,10 @@
 
 pub mod applying;
 pub mod argument;
+mod call;
+pub mod expression;
+mod node;
 pub mod operators;
 pub mod primary;
+mod type_names;
 pub mod usage;
