@@ -1,8 +1,13 @@
+pub mod Alone
+pub mod Declared
+pub mod Derivations
 pub mod Examples
 pub mod Expecting
+pub mod Lengths
 pub mod Levels
 pub mod Literals
 pub mod Parts
 pub mod Passing
 pub mod Size
+pub mod TypedParameters
 pub mod Within

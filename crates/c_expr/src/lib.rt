@@ -3,10 +3,14 @@
 
 pub mod applying;
 pub mod argument;
+pub mod around;
 mod call;
+pub mod declarators;
 pub mod expression;
 mod node;
 pub mod operators;
+mod parameter_lists;
 pub mod primary;
+pub mod specifiers;
 mod type_names;
 pub mod usage;

@@ -5,15 +5,18 @@ ghost use Rattle.c_syntax.specs.View.{type_name_of};
 ghost use Rattle.c_type_parts.specs.Clauses.{AnswersType};
 ghost use Rattle.c_expr.specs.Typing as spec;
 
-use crate::expression::value_operand;
+use crate::around::{bare_context, no_ellipsis};
+use crate::declarators::{Base, declared_type};
+use crate::specifiers::specified;
 use c_core::TypeFault;
 use c_scopes::Scopes;
-use c_syntax::{Declarator, TypeName};
+use c_syntax::TypeName;
+use c_type_rules::Setting;
 use c_types::{TypeId, TypeTable};
 use critical_table::Pos;
-use std::alloc::AllocError;
 
-/// The type that a type name names (6.7.7).
+/// The type that a type name names (6.7.7); a constraint on it that has no place of its own is told at the operator
+/// around it.
 #[cycle(typing)]
 pub(crate) fn named(
     scopes: &mut Scopes,
@@ -22,12 +25,14 @@ pub(crate) fn named(
     name: &TypeName,
 ) -> Result<TypeId, TypeFault>
     requires { ScopesIn types.old scopes.old }
-    ensures { AnswersType (spec.named around (type_name_of name.now) (env_of scopes.old types.old)) types.old
-        scopes.new types.new result }
+    ensures { AnswersType (spec.named around (type_name_of name.now) (env_of scopes.old types.old)) types.old scopes.new
+        types.new result }
 {
-    let _around = around;
-    if let Declarator::ArrayOf(_, Some(length)) = &name.declarator {
-        let _made = value_operand(scopes, types, length);
-    }
-    Err(TypeFault::Memory(AllocError))
+    let context = bare_context(Setting::TypeName);
+    let of = specified(scopes, types, context, name.specifiers.as_slice())?;
+    let base = Base {
+        of,
+        around: no_ellipsis(around),
+    };
+    declared_type(scopes, types, base, &name.declarator)
 }

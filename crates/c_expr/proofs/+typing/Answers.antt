@@ -1,6 +1,7 @@
--- The goals of the walk over expressions: the parts of a node in order, and then the node by its rule.
-use Rattle.std.proofs.Common.{◌≡◌, ◌∙◌, ◌<◌, ap, sym, subst, map, length, arith, rules}
-use Rattle.std.specs.Prelude.{Option, Ok}
+-- The goals of the walk over expressions, declarators, parameters and type names: the parts of a node in order, and
+-- then the node by its rule.
+use Rattle.std.proofs.Common.{◌≡◌, ◌∙◌, ◌<◌, ap, sym, subst, map, length, arith, rules, ◌≤◌, List, [], refl}
+use Rattle.std.specs.Prelude.{Option, Ok, ◌&&◌, None, Vec}
 use Rattle.std.proofs.lemmas.Result.{err_from_is_err_and}
 use Rattle.c_types.specs.CType.{CType}
 use Rattle.c_types.specs.Structures.{structures_of}
@@ -8,10 +9,11 @@ use Rattle.c_core.specs.Ids.{CoreIn}
 use Rattle.c_core.specs.Tree.{Core}
 use Rattle.c_core.specs.View.{core_of}
 use Rattle.c_core.proofs.Kept.{core_kept, core_in_kept, type_kept}
-use Rattle.c_syntax.specs.View.{expr_of, exprs, type_name_of}
-use Rattle.c_syntax.proofs.SpelledLists.{call_of, type_measure, casts}
+use Rattle.c_syntax.specs.View.{expr_of, exprs, type_name_of, declarator_of, parameter_of, parameters, specifiers_of}
+use Rattle.c_syntax.specs.View.{value_of}
+use Rattle.c_syntax.proofs.SpelledLists.{call_of, type_measure, casts, function_seen}
 use Rattle.c_scopes.specs.Clauses.{Rules}
-use Rattle.c_scopes.specs.Env.{env_of}
+use Rattle.c_scopes.specs.Env.{env_of, ScopesIn}
 use Rattle.c_scopes.proofs.Growth.{scopes_stay_in}
 use Rattle.c_conversions.specs.Parts.{Part, part_of, PartIn}
 use Rattle.c_expr_rules.specs.Calls.{call_rule}
@@ -20,18 +22,37 @@ use Rattle.c_operator_rules.specs.Assignment.{postfix_rule}
 use Rattle.c_type_parts.specs.Clauses.{Answers}
 use Rattle.c_expr.specs.Clauses.{cores_of}
 use Rattle.c_type_parts.specs.Answers.{settle}
-use Rattle.c_expr.specs.Operands.{argument_rule, argument_value_rule, callee_parameters, callee_varies}
-use Rattle.c_expr.specs.Operands.{cast_to_rule, first_of, types_behind}
+use Rattle.c_expr.specs.Operands.{argument_rule, argument_value_rule, callee_parameters, callee_varies, cast_to_rule}
+use Rattle.c_expr.specs.Operands.{first_of, types_behind}
 use Rattle.c_type_parts.specs.Shapes.{place_of}
-use Rattle.c_expr.specs.Typing.{typed, side_of}
+use Rattle.c_expr.specs.Typing.{typed, side_of, array_length, derived, parameters_typed}
 use Rattle.c_expr.specs.Uses.{as_argument, as_test, as_unused, as_used, as_value, both, joined, side_as}
 use Rattle.c_expr.proofs.Parts.{part_kept, part_in_kept, option_kept, option_in_kept, both_given, side_named}
 use Rattle.c_expr.proofs.Parts.{both_named}
 use Rattle.c_expr.proofs.Passing.{passing_items, passing_none, passing_next, passing_stopped, passing_end}
-use Rattle.c_expr.proofs.Size.{size, exprs_size, type_name_size}
-use Rattle.c_type_parts.proofs.Steps.{answers_as, breaks_refused_at, given_as, refused_as, refused_later, refused_then, settled, settled_at}
-use Rattle.c_type_parts.proofs.Steps.{then_given, then_part}
+use Rattle.c_expr.proofs.Size.{size, exprs_size, type_name_size, declarator_size, parameter_size, parameters_size}
+use Rattle.c_type_parts.proofs.Steps.{answers_as, breaks_refused_at, given_as, refused_as, refused_later, refused_then}
+use Rattle.c_type_parts.proofs.Steps.{settled, settled_at, then_given, then_part}
 use Rattle.c_expr.proofs.Within.{size_within}
+use Rattle.std.specs.Global.{Global}
+use Rattle.c_types.specs.declared.shape.TypeId.{TypeId}
+use Rattle.c_types.proofs.Kept.{grows_own}
+use Rattle.c_scopes.specs.Scopes.{Scope}
+use Rattle.c_type_rules.specs.Qualified.{quals_of_words}
+use Rattle.c_type_parts.specs.Declaring.{is_alone, is_first}
+use Rattle.c_type_parts.specs.Seen.{derived_list}
+use Rattle.c_expr.specs.Derivations.{DerivationsIn, derivations_of, left_behind, without_names}
+use Rattle.c_expr.proofs.Declared.{declared_answers, declared_refused, declarator_refused, name_answers, name_refused}
+use Rattle.c_expr.proofs.Declared.{parameter_answers, parameter_refused}
+use Rattle.c_expr.proofs.Derivations.{array_given, array_next, array_refused, array_seen, array_step, function_given}
+use Rattle.c_expr.proofs.Derivations.{function_next, function_refused, function_step, inner_refused, none_given}
+use Rattle.c_expr.proofs.Derivations.{pointer_given, pointer_next, pointer_step}
+use Rattle.c_expr.proofs.Lengths.{length_broken, length_given, length_refused}
+use Rattle.c_expr.proofs.TypedParameters.{as_many, left_given, left_refused, next_refused, next_some, next_void}
+use Rattle.c_expr.proofs.TypedParameters.{parameter_within, typed_end, typed_none}
+use Rattle.c_expr.proofs.+typing.Goals.{parameter_lists::parameters_typed-in-Some+in_ok-push}
+use Rattle.c_expr.proofs.+typing.Goals.{parameter_lists::parameters_typed-in_default-of}
+use Rattle.c_syntax.specs.Tree as tree
 use Rattle.c_expr.proofs.+typing.Goals as goal
 
 pub expression::used_operand-returns : goal.expression::used_operand-returns
@@ -490,3 +511,345 @@ expression::operand-cast_operand-requires t c =
     ≡ type_name_size (type_name_of c.in-Cast.name.value) = cc in
     let g : size (expr_of c.deref-in-Cast-2.result.now) ≡ size (expr_of c.in-Cast.inner.value) = cc in
     (omega (arith, c.decreases, e, f, g), c.requires)
+
+-- ---- lengths of arrays
+
+pub declarators::array_length-returns-in_default : goal.declarators::array_length-returns-in_default
+unfolding array_length
+declarators::array_length-returns-in_default t c = record {
+  is = ap (λ x. array_length (value_of x) (env_of c.args.scopes.now c.args.types.now)) c.in_default.is;
+  is_in = tt;
+  here = c.requires;
+  grown = grows_own c.args.types.now;
+}
+
+pub declarators::array_length-returns-in_err-operand : goal.declarators::array_length-returns-in_err-operand
+declarators::array_length-returns-in_err-operand t c =
+    let p = err_from_is_err_and c.from_residual.result c.from_residual.ensures.1 in
+    let env = env_of c.args.scopes.now c.args.types.now in
+    let d : c.in-Some.expr.value ≡ c.deref.result.now = cc in
+    rw (p.1, p.2) (refused_as _ _ _
+    (ap (λ x. array_length (value_of x) env) c.in-Some.is ∙ ap (λ x. array_length (tree.With (expr_of x)) env) d)
+    (length_refused (expr_of c.deref.result.now) env _ c.in_err-operand.ensures))
+
+pub declarators::array_length-returns-in_err-n : goal.declarators::array_length-returns-in_err-n
+declarators::array_length-returns-in_err-n t c =
+    let p = err_from_is_err_and c.from_residual-in_err-n.result c.from_residual-in_err-n.ensures.1 in
+    let env = env_of c.args.scopes.now c.args.types.now in
+    let d : c.in-Some.expr.value ≡ c.deref.result.now = cc in
+    let again : c.deref-2.result.now ≡ c.deref.result.now = cc in
+    rw (p.1, p.2) (refused_as _ _ _
+    (ap (λ x. array_length (value_of x) env) c.in-Some.is ∙ ap (λ x. array_length (tree.With (expr_of x)) env) d)
+    (length_broken (expr_of c.deref.result.now) env c.in_ok-operand.operand c.args.types.now c.used_operand.new.types
+    c.used_operand.new.scopes c.constant.result c.in_ok-operand.ensures c.constant.ensures c.place_of.result _
+    (c.place_of.ensures ∙ ap (λ x. place_of (expr_of x)) again) c.in_err-n.ensures))
+
+pub declarators::array_length-returns : goal.declarators::array_length-returns
+declarators::array_length-returns t c =
+    let env = env_of c.args.scopes.now c.args.types.now in
+    let d : c.in-Some.expr.value ≡ c.deref.result.now = cc in
+    given_as _ _ _ _ _ _ _
+    (ap (λ x. array_length (value_of x) env) c.in-Some.is ∙ ap (λ x. array_length (tree.With (expr_of x)) env) d)
+    (length_given (expr_of c.deref.result.now) env c.in_ok-operand.operand c.args.types.now c.used_operand.new.types
+    c.used_operand.new.scopes c.constant.result c.in_ok-operand.ensures c.constant.ensures c.in_ok-n.n
+    c.in_ok-n.ensures)
+
+-- ---- declarators
+
+pub declarators::declared_type-returns-in_err-all : goal.declarators::declared_type-returns-in_err-all
+declarators::declared_type-returns-in_err-all t c =
+    let p = err_from_is_err_and c.from_residual.result c.from_residual.ensures.1 in
+    rw (p.1, p.2) (declared_refused (declarator_of c.args.declarator.now) c.args.base.around c.own_around-around.result
+    c.args.base.of c.args.types.now c.args.scopes.now c.own_around-around.ensures _ c.in_err-all.ensures)
+
+pub declarators::declared_type-returns : goal.declarators::declared_type-returns
+declarators::declared_type-returns t c =
+    declared_answers (declarator_of c.args.declarator.now) c.args.base.around c.own_around-around.result
+    c.args.base.of c.args.types.now c.args.scopes.now c.own_around-around.ensures c.name_place.result
+    c.in_ok-all.all.items c.as_slice.result.now c.derived.new.types c.derived_type.new.types c.derived.new.scopes
+    c.derived_type.result c.name_place.ensures c.as_slice.ensures.value c.requires.base c.in_ok-all.ensures
+    (c.derived_type.ensures c.derived.new.scopes c.in_ok-all.ensures.here)
+
+pub declarators::derived-returns-in-Omitted : goal.declarators::derived-returns-in-Omitted
+unfolding derived
+declarators::derived-returns-in-Omitted t c =
+    none_given _ c.args.scopes.now c.args.types.now c.new.result.items
+    (ap (λ x. without_names (derived c.args.around (declarator_of x) (env_of c.args.scopes.now c.args.types.now)))
+    c.in-Omitted.is) c.new.ensures.items c.requires
+
+pub declarators::derived-returns-in-Name : goal.declarators::derived-returns-in-Name
+unfolding derived
+declarators::derived-returns-in-Name t c =
+    none_given _ c.args.scopes.now c.args.types.now c.new-in-Name.result.items
+    (ap (λ x. without_names (derived c.args.around (declarator_of x) (env_of c.args.scopes.now c.args.types.now)))
+    c.in-Name.is) c.new-in-Name.ensures.items c.requires
+
+pub declarators::derived-returns-in-DParen : goal.declarators::derived-returns-in-DParen
+unfolding derived
+declarators::derived-returns-in-DParen t c =
+    let env = env_of c.args.scopes.now c.args.types.now in
+    let d : c.in-DParen.inner.value ≡ c.deref.result.now = cc in
+    answers_as derivations_of DerivationsIn _ _ _ _ _ _
+    (ap (λ x. without_names (derived c.args.around (declarator_of x) env)) c.in-DParen.is
+    ∙ ap (λ x. without_names (derived c.args.around (declarator_of x) env)) d) c.derived.ensures
+
+pub declarators::derived-returns-in_err-all-in-PointerTo : goal.declarators::derived-returns-in_err-all-in-PointerTo
+declarators::derived-returns-in_err-all-in-PointerTo t c =
+    let p = err_from_is_err_and c.from_residual.result c.from_residual.ensures.1 in
+    let env = env_of c.args.scopes.now c.args.types.now in
+    let inner = declarator_of c.deref-in-PointerTo.result.now in
+    let words = c.in-PointerTo.words.items in
+    let d : c.in-PointerTo.inner.value ≡ c.deref-in-PointerTo.result.now = cc in
+    rw (p.1, p.2) (inner_refused _ c.args.around inner env (pointer_next words) _
+    (ap (λ x. without_names (derived c.args.around (declarator_of x) env)) c.in-PointerTo.is
+    ∙ ap (λ x. without_names (derived c.args.around (tree.PointerTo words (declarator_of x)) env)) d
+    ∙ pointer_step c.args.around words inner env) c.in_err-all-in-PointerTo.ensures)
+
+pub declarators::derived-returns-in_ok-more-in-PointerTo : goal.declarators::derived-returns-in_ok-more-in-PointerTo
+declarators::derived-returns-in_ok-more-in-PointerTo t c =
+    let env = env_of c.args.scopes.now c.args.types.now in
+    let words = c.in-PointerTo.words.items in
+    let d : c.in-PointerTo.inner.value ≡ c.deref-in-PointerTo.result.now = cc in
+    pointer_given _ c.args.around (declarator_of c.deref-in-PointerTo.result.now) env c.args.types.now
+    c.derived-in-PointerTo.new.types c.derived-in-PointerTo.new.scopes c.in_ok-all-in-PointerTo.all.items
+    c.in_ok-more-in-PointerTo.more.items c.in_ok-all-in-PointerTo.ensures words c.qualifiers.result
+    (ap (λ x. without_names (derived c.args.around (declarator_of x) env)) c.in-PointerTo.is
+    ∙ ap (λ x. without_names (derived c.args.around (tree.PointerTo words (declarator_of x)) env)) d)
+    (c.qualifiers.ensures ∙ ap quals_of_words c.as_slice.ensures.value) c.in_ok-more-in-PointerTo.ensures
+
+pub declarators::derived-returns-in_err-all-in-ArrayOf : goal.declarators::derived-returns-in_err-all-in-ArrayOf
+declarators::derived-returns-in_err-all-in-ArrayOf t c =
+    let p = err_from_is_err_and c.from_residual-in_err-all-in-ArrayOf.result
+    c.from_residual-in_err-all-in-ArrayOf.ensures.1 in
+    let env = env_of c.args.scopes.now c.args.types.now in
+    let inner = declarator_of c.deref-in-ArrayOf.result.now in
+    let len = value_of c.in-ArrayOf.length in
+    let d : c.in-ArrayOf.inner.value ≡ c.deref-in-ArrayOf.result.now = cc in
+    rw (p.1, p.2) (inner_refused _ c.args.around inner env (array_next len) _
+    (ap (λ x. without_names (derived c.args.around (declarator_of x) env)) c.in-ArrayOf.is
+    ∙ ap (λ x. without_names (derived c.args.around x env)) (array_seen c.in-ArrayOf.inner c.in-ArrayOf.length)
+    ∙ ap (λ x. without_names (derived c.args.around (tree.ArrayOf (declarator_of x) len) env)) d
+    ∙ array_step c.args.around inner len env) c.in_err-all-in-ArrayOf.ensures)
+
+pub declarators::derived-returns-in_err-n-in-ArrayOf : goal.declarators::derived-returns-in_err-n-in-ArrayOf
+declarators::derived-returns-in_err-n-in-ArrayOf t c =
+    let p = err_from_is_err_and c.from_residual-in_err-n-in-ArrayOf.result
+    c.from_residual-in_err-n-in-ArrayOf.ensures.1 in
+    let env = env_of c.args.scopes.now c.args.types.now in
+    let len = value_of c.in-ArrayOf.length in
+    let d : c.in-ArrayOf.inner.value ≡ c.deref-in-ArrayOf.result.now = cc in
+    rw (p.1, p.2) (array_refused _ c.args.around (declarator_of c.deref-in-ArrayOf.result.now) env c.args.types.now
+    c.derived-in-ArrayOf.new.types c.derived-in-ArrayOf.new.scopes c.in_ok-all-in-ArrayOf.all.items []
+    c.in_ok-all-in-ArrayOf.ensures len _
+    (ap (λ x. without_names (derived c.args.around (declarator_of x) env)) c.in-ArrayOf.is
+    ∙ ap (λ x. without_names (derived c.args.around x env)) (array_seen c.in-ArrayOf.inner c.in-ArrayOf.length)
+    ∙ ap (λ x. without_names (derived c.args.around (tree.ArrayOf (declarator_of x) len) env)) d)
+    c.in_err-n-in-ArrayOf.ensures)
+
+pub declarators::derived-returns-in_ok-more-in-ArrayOf : goal.declarators::derived-returns-in_ok-more-in-ArrayOf
+declarators::derived-returns-in_ok-more-in-ArrayOf t c =
+    let env = env_of c.args.scopes.now c.args.types.now in
+    let len = value_of c.in-ArrayOf.length in
+    let d : c.in-ArrayOf.inner.value ≡ c.deref-in-ArrayOf.result.now = cc in
+    array_given _ c.args.around (declarator_of c.deref-in-ArrayOf.result.now) env c.args.types.now
+    c.derived-in-ArrayOf.new.types c.derived-in-ArrayOf.new.scopes c.in_ok-all-in-ArrayOf.all.items
+    c.in_ok-more-in-ArrayOf.more.items c.in_ok-all-in-ArrayOf.ensures len c.in_ok-n-in-ArrayOf.n c.length_place.result
+    c.array_length.new.types c.array_length.new.scopes
+    (ap (λ x. without_names (derived c.args.around (declarator_of x) env)) c.in-ArrayOf.is
+    ∙ ap (λ x. without_names (derived c.args.around x env)) (array_seen c.in-ArrayOf.inner c.in-ArrayOf.length)
+    ∙ ap (λ x. without_names (derived c.args.around (tree.ArrayOf (declarator_of x) len) env)) d)
+    c.length_place.ensures c.in_ok-n-in-ArrayOf.ensures c.in_ok-more-in-ArrayOf.ensures
+
+pub declarators::derived-returns-in_err-all-in-FunctionOf : goal.declarators::derived-returns-in_err-all-in-FunctionOf
+declarators::derived-returns-in_err-all-in-FunctionOf t c =
+    let p = err_from_is_err_and c.from_residual-in_err-all-in-FunctionOf.result
+    c.from_residual-in_err-all-in-FunctionOf.ensures.1 in
+    let env = env_of c.args.scopes.now c.args.types.now in
+    let inner = declarator_of c.deref-in-FunctionOf.result.now in
+    let f = c.in-FunctionOf in
+    let list = parameters (map parameter_of f.list.items) in
+    let d : f.inner.value ≡ c.deref-in-FunctionOf.result.now = cc in
+    rw (p.1, p.2) (inner_refused _ c.args.around inner env (function_next c.args.around list f.variadic) _
+    (ap (λ x. without_names (derived c.args.around (declarator_of x) env)) f.is
+    ∙ ap (λ x. without_names (derived c.args.around x env)) (function_seen f.inner f.list f.variadic)
+    ∙ ap (λ x. without_names (derived c.args.around (tree.FunctionOf (declarator_of x) list f.variadic) env)) d
+    ∙ function_step c.args.around inner list f.variadic env) c.in_err-all-in-FunctionOf.ensures)
+
+pub declarators::derived-parameters_typed-requires : goal.declarators::derived-parameters_typed-requires
+declarators::derived-parameters_typed-requires t c =
+    let f = c.in-FunctionOf in
+    let e = ap (λ x. declarator_size (declarator_of x)) f.is
+    ∙ ap declarator_size (function_seen f.inner f.list f.variadic) in
+    let a = ap (λ all. parameters_size (parameters (map parameter_of all))) c.as_slice-in-FunctionOf-2.ensures.value in
+    (omega (arith, c.decreases, e, a), c.in_ok-all-in-FunctionOf.ensures.here)
+
+pub declarators::derived-returns-in_err-types_of-in-FunctionOf :
+    goal.declarators::derived-returns-in_err-types_of-in-FunctionOf
+declarators::derived-returns-in_err-types_of-in-FunctionOf t c =
+    let p = err_from_is_err_and c.from_residual-in_err-types_of-in-FunctionOf.result
+    c.from_residual-in_err-types_of-in-FunctionOf.ensures.1 in
+    let env = env_of c.args.scopes.now c.args.types.now in
+    let f = c.in-FunctionOf in
+    let seen = c.as_slice-in-FunctionOf-2 in
+    let list = parameters (map parameter_of seen.result.now) in
+    let d : f.inner.value ≡ c.deref-in-FunctionOf.result.now = cc in
+    rw (p.1, p.2) (function_refused _ c.args.around (declarator_of c.deref-in-FunctionOf.result.now) env
+    c.args.types.now c.derived-in-FunctionOf.new.types c.derived-in-FunctionOf.new.scopes
+    c.in_ok-all-in-FunctionOf.all.items [] c.in_ok-all-in-FunctionOf.ensures list f.variadic c.is_alone.result
+    (ap (λ x. without_names (derived c.args.around (declarator_of x) env)) f.is
+    ∙ ap (λ x. without_names (derived c.args.around x env)) (function_seen f.inner f.list f.variadic)
+    ∙ (λ i. without_names (derived c.args.around
+    (tree.FunctionOf (declarator_of (d i)) (parameters (map parameter_of (sym seen.ensures.value i))) f.variadic) env)))
+    (c.is_alone.ensures
+    ∙ ap (λ all. is_alone (parameters (map parameter_of all)) f.variadic)
+    (c.as_slice-in-FunctionOf.ensures.value ∙ sym seen.ensures.value)) _
+    c.in_err-types_of-in-FunctionOf.ensures)
+
+pub declarators::derived-returns-in_ok-more-in-FunctionOf : goal.declarators::derived-returns-in_ok-more-in-FunctionOf
+declarators::derived-returns-in_ok-more-in-FunctionOf t c =
+    let env = env_of c.args.scopes.now c.args.types.now in
+    let mid = c.derived-in-FunctionOf.new.types in
+    let f = c.in-FunctionOf in
+    let seen = c.as_slice-in-FunctionOf-2 in
+    let list = parameters (map parameter_of seen.result.now) in
+    let d : f.inner.value ≡ c.deref-in-FunctionOf.result.now = cc in
+    function_given _ c.args.around (declarator_of c.deref-in-FunctionOf.result.now) env c.args.types.now mid
+    c.derived-in-FunctionOf.new.scopes c.in_ok-all-in-FunctionOf.all.items c.in_ok-more-in-FunctionOf.more.items
+    c.in_ok-all-in-FunctionOf.ensures list f.variadic c.is_alone.result
+    (ap (λ x. without_names (derived c.args.around (declarator_of x) env)) f.is
+    ∙ ap (λ x. without_names (derived c.args.around x env)) (function_seen f.inner f.list f.variadic)
+    ∙ (λ i. without_names (derived c.args.around
+    (tree.FunctionOf (declarator_of (d i)) (parameters (map parameter_of (sym seen.ensures.value i))) f.variadic) env)))
+    (c.is_alone.ensures
+    ∙ ap (λ all. is_alone (parameters (map parameter_of all)) f.variadic)
+    (c.as_slice-in-FunctionOf.ensures.value ∙ sym seen.ensures.value))
+    (record {
+      types = c.in_ok-types_of-in-FunctionOf.types_of;
+      variadic = f.variadic;
+      may_vary = c.may_vary.result;
+    }) c.parameters_typed.new.types c.parameters_typed.new.scopes c.in_ok-types_of-in-FunctionOf.ensures refl
+    (c.may_vary.ensures mid
+    ∙ ap (λ all. c.args.around.may_vary && is_first (derived_list mid all)) c.as_slice-in-FunctionOf-3.ensures.value)
+    c.in_ok-more-in-FunctionOf.ensures
+
+-- ---- parameters
+
+pub parameter_lists::parameter_typed-returns-in_err-of : goal.parameter_lists::parameter_typed-returns-in_err-of
+parameter_lists::parameter_typed-returns-in_err-of t c =
+    let p = err_from_is_err_and c.from_residual.result c.from_residual.ensures.1 in
+    rw (p.1, p.2) (parameter_refused c.args.site.function.around (specifiers_of c.args.parameter.now.specifiers.items)
+    (specifiers_of c.as_slice.result.now) (declarator_of c.args.parameter.now.declarator) c.bare_context-context.result
+    _ (env_of c.args.scopes.now c.args.types.now) (ap specifiers_of c.as_slice.ensures.value) refl
+    c.args.site.function.alone c.args.site.number c.bare_context-context.ensures _ c.in_err-of.ensures)
+
+pub parameter_lists::parameter_typed-returns-in_err-declared :
+    goal.parameter_lists::parameter_typed-returns-in_err-declared
+parameter_lists::parameter_typed-returns-in_err-declared t c =
+    let p = err_from_is_err_and c.from_residual-in_err-declared.result c.from_residual-in_err-declared.ensures.1 in
+    rw (p.1, p.2) (declarator_refused c.args.site.function.around
+    (specifiers_of c.args.parameter.now.specifiers.items) (specifiers_of c.as_slice.result.now)
+    (declarator_of c.args.parameter.now.declarator) c.bare_context-context.result c.no_ellipsis.result
+    (env_of c.args.scopes.now c.args.types.now) (ap specifiers_of c.as_slice.ensures.value) c.no_ellipsis.ensures
+    c.args.site.function.alone c.args.site.number c.bare_context-context.ensures c.in_ok-of.of c.args.types.now
+    c.specified.new.types c.specified.new.scopes c.in_ok-of.ensures _ c.in_err-declared.ensures)
+
+pub parameter_lists::parameter_typed-returns : goal.parameter_lists::parameter_typed-returns
+parameter_lists::parameter_typed-returns t c =
+    parameter_answers c.args.site.function.around
+    (specifiers_of c.args.parameter.now.specifiers.items) (specifiers_of c.as_slice.result.now)
+    (declarator_of c.args.parameter.now.declarator) c.bare_context-context.result c.no_ellipsis.result
+    (env_of c.args.scopes.now c.args.types.now) (ap specifiers_of c.as_slice.ensures.value) c.no_ellipsis.ensures
+    c.args.site.function.alone c.args.site.number c.bare_context-context.ensures c.in_ok-of.of c.args.types.now
+    c.specified.new.types c.specified.new.scopes c.in_ok-of.ensures c.in_ok-declared.declared c.declared_type.new.types
+    c.declared_parameter.new.types c.declared_type.new.scopes c.declared_parameter.new.scopes
+    c.declared_parameter.result c.in_ok-declared.ensures c.declared_parameter.ensures
+
+pub parameter_lists::parameters_typed-loop-index-init : goal.parameter_lists::parameters_typed-loop-index-init
+parameter_lists::parameters_typed-loop-index-init t c =
+    typed_none _ _ _ c.enter.new.self c.args.types.now c.new-all.result.items
+    (subst (λ (scopes : List Scope). ScopesIn c.args.types.now scopes) (sym c.in_ok-enter.ensures.opens)
+    (tt, tt, c.requires)) c.new-all.ensures.items
+
+pub parameter_lists::parameters_typed-parameter_typed-requires :
+    goal.parameter_lists::parameters_typed-parameter_typed-requires
+parameter_lists::parameters_typed-parameter_typed-requires t c =
+    let x = c.index-list-index.result in
+    let all = c.args.list.now in
+    let within : c.loop-index.index < length all = omega arith in
+    let less : parameter_size (parameter_of x) < parameters_size (parameters (map parameter_of all)) =
+    subst (λ y. parameter_size (parameter_of y) < parameters_size (parameters (map parameter_of all)))
+    (sym c.index-list-index.is) (parameter_within all c.loop-index.index x within) in
+    (omega (arith, c.decreases, less), c.loop-index.invariant.here)
+
+pub parameter_lists::parameters_typed-returns-in_err-of : goal.parameter_lists::parameters_typed-returns-in_err-of
+parameter_lists::parameters_typed-returns-in_err-of t c =
+    let p = err_from_is_err_and c.from_residual-in_err-of.result c.from_residual-in_err-of.ensures.1 in
+    let all = c.args.list.now in
+    let site = c.args.site in
+    let within : c.loop-index.index < length all = omega arith in
+    rw (p.1, p.2) (refused_as _ _ _
+    (ap (λ scopes. left_behind (parameters_typed site.around site.alone (parameters (map parameter_of all)) 0
+    (env_of scopes c.args.types.now))) (sym c.in_ok-enter.ensures.opens))
+    (left_refused _ _ (next_refused site.around site.alone _ all c.loop-index.index c.index-list-index.result
+    c.args.types.now c.loop-index.types c.loop-index.scopes _ within c.index-list-index.is c.loop-index.invariant
+    c.in-Ok.number c.in-Ok.ensures.1 _ c.in_err-of.ensures)))
+
+pub parameter_lists::parameters_typed-loop-index-preserved : goal.parameter_lists::parameters_typed-loop-index-preserved
+parameter_lists::parameters_typed-loop-index-preserved t c =
+    let all = c.args.list.now in
+    let site = c.args.site in
+    let within : c.loop-index.index < length all = omega arith in
+    elim c.match-of.branch [
+      | parameter_lists::parameters_typed-in-Some+in_ok-push w ↦
+          next_some site.around site.alone _ all c.loop-index.index c.index-list-index.result c.args.types.now
+          c.loop-index.types c.loop-index.scopes c.loop-index.all.items within c.index-list-index.is
+          c.loop-index.invariant c.in-Ok.number c.in-Ok.ensures.1 c.parameter_typed.new.scopes
+          c.parameter_typed.new.types c.in_ok-of.of c.match-of.all.items c.in_ok-of.ensures w.in-Some.of w.in-Some.is
+          (ap (λ (v : Vec TypeId Global). v.items) w.all-is ∙ w.in_ok-push.ensures.items)
+      | parameter_lists::parameters_typed-in_default-of w ↦
+          next_void site.around site.alone _ all c.loop-index.index c.index-list-index.result c.args.types.now
+          c.loop-index.types c.loop-index.scopes c.loop-index.all.items within c.index-list-index.is
+          c.loop-index.invariant c.in-Ok.number c.in-Ok.ensures.1 c.parameter_typed.new.scopes
+          c.parameter_typed.new.types c.in_ok-of.of c.match-of.all.items c.in_ok-of.ensures w.in_default-of.is
+          (ap (λ (v : Vec TypeId Global). v.items) w.all-is)
+    ]
+
+pub parameter_lists::parameters_typed-leave-requires : goal.parameter_lists::parameters_typed-leave-requires
+parameter_lists::parameters_typed-leave-requires t c =
+    let all = c.args.list.now in
+    let site = c.args.site in
+    let past : length all ≤ c.loop-index.index = omega arith in
+    let gives = typed_end site.around site.alone _ all c.loop-index.index _ _ _ _ past c.loop-index.invariant in
+    let many = as_many site.around site.alone (parameters (map parameter_of all)) c.enter.new.self c.args.types.now _
+    c.loop-index.scopes c.loop-index.types gives in
+    omega (arith, many, c.in_ok-enter.ensures.inner)
+
+pub parameter_lists::parameters_typed-returns : goal.parameter_lists::parameters_typed-returns
+parameter_lists::parameters_typed-returns t c =
+    let all = c.args.list.now in
+    let site = c.args.site in
+    let past : length all ≤ c.loop-index.index = omega arith in
+    let gives = typed_end site.around site.alone _ all c.loop-index.index _ _ _ _ past c.loop-index.invariant in
+    given_as _ _ _ _ _ _ _
+    (ap (λ scopes. left_behind (parameters_typed site.around site.alone (parameters (map parameter_of all)) 0
+    (env_of scopes c.args.types.now))) (sym c.in_ok-enter.ensures.opens))
+    (left_given _ c.loop-index.all.items c.args.types.now c.loop-index.types c.loop-index.scopes c.leave.new.self gives
+    c.leave.ensures c.loop-index.invariant.here c.loop-index.invariant.grown c.loop-index.invariant.is_in)
+
+-- ---- type names
+
+pub type_names::named-returns-in_err-of : goal.type_names::named-returns-in_err-of
+type_names::named-returns-in_err-of t c =
+    let p = err_from_is_err_and c.from_residual.result c.from_residual.ensures.1 in
+    rw (p.1, p.2) (name_refused c.args.around (specifiers_of c.args.name.now.specifiers.items)
+    (specifiers_of c.as_slice.result.now) (declarator_of c.args.name.now.declarator) c.bare_context-context.result _
+    (env_of c.args.scopes.now c.args.types.now) (ap specifiers_of c.as_slice.ensures.value) refl
+    c.bare_context-context.ensures _ c.in_err-of.ensures)
+
+pub type_names::named-returns : goal.type_names::named-returns
+type_names::named-returns t c =
+    name_answers c.args.around (specifiers_of c.args.name.now.specifiers.items) (specifiers_of c.as_slice.result.now)
+    (declarator_of c.args.name.now.declarator) c.bare_context-context.result c.no_ellipsis.result
+    (env_of c.args.scopes.now c.args.types.now) (ap specifiers_of c.as_slice.ensures.value) c.no_ellipsis.ensures
+    c.bare_context-context.ensures c.in_ok-of.of c.args.types.now c.specified.new.types c.declared_type.new.types
+    c.specified.new.scopes c.declared_type.new.scopes c.declared_type.result c.in_ok-of.ensures c.declared_type.ensures
