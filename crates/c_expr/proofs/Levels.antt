@@ -379,10 +379,10 @@ mutual
       → Keeps env (walk.each_member all base earlier env)
   each_member_keeps tree.NoDeclarator base earlier env = same_innermost env.scopes
   each_member_keeps (tree.MoreDeclarators first rest) base earlier env =
-      then_keeps env (of_derivations _ _ base (walk.derived _ first env)) _
-      (derivations_keep _ _ base (walk.derived _ first env) env (derived_keeps _ first env)) (λ type after.
-      then_keeps after (settle _ after _) _ (settle_keeps _ after _)
-      (λ stands last. each_member_keeps rest base _ last))
+      then_keeps env (and_then (of_derivations _ _ base (walk.derived _ first env)) _) _
+      (then_keeps env (of_derivations _ _ base (walk.derived _ first env)) _
+      (derivations_keep _ _ base (walk.derived _ first env) env (derived_keeps _ first env))
+      (λ type after. settle_gives _ after _ _)) (λ more last. each_member_keeps rest base more last)
 
   enumerated_keeps : (all : Enumerators) (next : ℤ) (env : Env) → Keeps env (walk.enumerated all next env)
   enumerated_keeps tree.NoEnumerator next env = same_innermost env.scopes

@@ -58,7 +58,8 @@ onto_one all core (Gives more env) = ap (λ x. Gives x env) (in_front_of_one all
 onto_one all core (Refuses number at) = refl
 
 -- Of a call's arguments some were passed, and these are left.
-pub record Passing (whole : Answer Cores) (parameters : CTypes) (variadic : Bool) (left : Exprs) (count : ℕ) (old : Types)
+pub record Passing (whole : Answer Cores) (parameters : CTypes) (variadic : Bool) (left : Exprs) (count : ℕ)
+    (old : Types)
     (scopes : List Scope) (types : Types) (done : List CoreExpr) : Type 0 where
   pub is : whole ≡ onto (map (core_of types) done)
       (passed left (types_behind count parameters) variadic (env_of scopes types))
@@ -194,7 +195,8 @@ module _ (whole : Answer Cores) (parameters : CTypes) (variadic : Bool) (list : 
   again : Passing whole parameters variadic (MoreExprs (expr_of x) (exprs (map expr_of (drop (i + 1) list)))) i old
       scopes mid done
   again = passing_as whole parameters variadic (exprs (map expr_of (drop i list)))
-      (MoreExprs (expr_of x) (exprs (map expr_of (drop (i + 1) list)))) i old mid scopes done (left_at list i x within at)
+      (MoreExprs (expr_of x) (exprs (map expr_of (drop (i + 1) list)))) i old mid scopes done
+      (left_at list i x within at)
       before
 
   pub passing_next : (new : Types) (after : List Scope) (core : CoreExpr)

@@ -178,7 +178,8 @@ pub(crate) fn conditional_operand(
 ) -> Result<Operand, TypeFault>
     requires { ScopesIn types.old scopes.old }
     ensures { AnswersPart (typed node.entry.0 (tree.Cond node.entry.1 (expr_of node.entry.2.now)
-        (expr_of sides.entry.left.now) (expr_of sides.entry.right.now)) (env_of scopes.old types.old)) types.old scopes.new types.new result }
+        (expr_of sides.entry.left.now) (expr_of sides.entry.right.now)) (env_of scopes.old types.old)) types.old
+        scopes.new types.new result }
 {
     let test = test_core(scopes, types, node.2)?;
     let both = two_operands(scopes, types, choice_usages(node.0), sides)?;

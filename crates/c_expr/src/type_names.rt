@@ -18,7 +18,7 @@ use critical_table::Pos;
 /// The type that a type name names (6.7.7); a constraint on it that has no place of its own is told at the operator
 /// around it.
 #[cycle(typing)]
-pub(crate) fn named(
+pub fn named(
     scopes: &mut Scopes,
     types: &mut TypeTable,
     around: Pos,

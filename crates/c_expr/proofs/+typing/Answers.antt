@@ -1,46 +1,47 @@
--- The goals of the walk over expressions, declarators, parameters and type names: the parts of a node in order, and
--- then the node by its rule.
-use Rattle.std.proofs.Common.{◌≡◌, ◌∙◌, ◌<◌, ap, sym, subst, map, length, arith, rules, ◌≤◌, List, [], refl}
-use Rattle.std.specs.Prelude.{Option, Ok, ◌&&◌, None, Vec}
+-- The goals of the walk: the parts of a node in order, and then the node by its rule.
+use Rattle.std.proofs.Common.{◌≡◌, ◌∙◌, ◌<◌, ap, sym, subst, map, length, arith, rules, ◌≤◌, List, [], refl, ◌==◌}
+use Rattle.std.specs.Prelude.{Option, Ok, ◌&&◌, None, Vec, Bool}
 use Rattle.std.proofs.lemmas.Result.{err_from_is_err_and}
-use Rattle.c_types.specs.CType.{CType}
+use Rattle.c_types.specs.CType.{CType, type_of}
 use Rattle.c_types.specs.Structures.{structures_of}
 use Rattle.c_core.specs.Ids.{CoreIn}
 use Rattle.c_core.specs.Tree.{Core}
 use Rattle.c_core.specs.View.{core_of}
-use Rattle.c_core.proofs.Kept.{core_kept, core_in_kept, type_kept}
+use Rattle.c_core.proofs.Kept.{core_kept, core_in_kept, type_kept, id_in_kept}
 use Rattle.c_syntax.specs.View.{expr_of, exprs, type_name_of, declarator_of, parameter_of, parameters, specifiers_of}
-use Rattle.c_syntax.specs.View.{value_of}
-use Rattle.c_syntax.proofs.SpelledLists.{call_of, type_measure, casts, function_seen}
-use Rattle.c_scopes.specs.Clauses.{Rules}
+use Rattle.c_syntax.specs.View.{value_of, enumerator_of, enumerators, member_of, members, specifier_of}
+use Rattle.c_syntax.proofs.SpelledLists.{call_of, type_measure, casts, function_seen, compound_tree, enum_tree}
+use Rattle.c_scopes.specs.Clauses.{Rules, Settles}
 use Rattle.c_scopes.specs.Env.{env_of, ScopesIn}
 use Rattle.c_scopes.proofs.Growth.{scopes_stay_in}
 use Rattle.c_conversions.specs.Parts.{Part, part_of, PartIn}
 use Rattle.c_expr_rules.specs.Calls.{call_rule}
 use Rattle.c_operator_rules.specs.Conditional.{conditional_rule}
 use Rattle.c_operator_rules.specs.Assignment.{postfix_rule}
-use Rattle.c_type_parts.specs.Clauses.{Answers}
+use Rattle.c_type_parts.specs.Clauses.{Answers, AnswersType, Given, Refused}
 use Rattle.c_expr.specs.Clauses.{cores_of}
 use Rattle.c_type_parts.specs.Answers.{settle}
 use Rattle.c_expr.specs.Operands.{argument_rule, argument_value_rule, callee_parameters, callee_varies, cast_to_rule}
 use Rattle.c_expr.specs.Operands.{first_of, types_behind}
-use Rattle.c_type_parts.specs.Shapes.{place_of}
-use Rattle.c_expr.specs.Typing.{typed, side_of, array_length, derived, parameters_typed}
+use Rattle.c_type_parts.specs.Shapes.{place_of, first_place, names_something}
+use Rattle.c_expr.specs.Typing.{typed, side_of, array_length, derived, parameters_typed, declared, enumerated}
+use Rattle.c_expr.specs.Typing.{members_typed, one_specified, specified}
 use Rattle.c_expr.specs.Uses.{as_argument, as_test, as_unused, as_used, as_value, both, joined, side_as}
 use Rattle.c_expr.proofs.Parts.{part_kept, part_in_kept, option_kept, option_in_kept, both_given, side_named}
 use Rattle.c_expr.proofs.Parts.{both_named}
 use Rattle.c_expr.proofs.Passing.{passing_items, passing_none, passing_next, passing_stopped, passing_end}
 use Rattle.c_expr.proofs.Size.{size, exprs_size, type_name_size, declarator_size, parameter_size, parameters_size}
-use Rattle.c_type_parts.proofs.Steps.{answers_as, breaks_refused_at, given_as, refused_as, refused_later, refused_then}
-use Rattle.c_type_parts.proofs.Steps.{settled, settled_at, then_given, then_part}
+use Rattle.c_expr.proofs.Size.{enumerators_size, members_size, specifier_size, specifiers_size}
+use Rattle.c_type_parts.proofs.Steps.{answers_as, breaks_refused_at, given_as, refused_as, refused_later}
+use Rattle.c_type_parts.proofs.Steps.{refused_then, settled, settled_at, then_given, then_part}
 use Rattle.c_expr.proofs.Within.{size_within}
 use Rattle.std.specs.Global.{Global}
 use Rattle.c_types.specs.declared.shape.TypeId.{TypeId}
 use Rattle.c_types.proofs.Kept.{grows_own}
 use Rattle.c_scopes.specs.Scopes.{Scope}
 use Rattle.c_type_rules.specs.Qualified.{quals_of_words}
-use Rattle.c_type_parts.specs.Declaring.{is_alone, is_first}
-use Rattle.c_type_parts.specs.Seen.{derived_list}
+use Rattle.c_type_parts.specs.Declaring.{is_alone, is_first, no_members}
+use Rattle.c_type_parts.specs.Seen.{derived_list, AnswersMore, BeforeIn, before_of, members_of, outline_of}
 use Rattle.c_expr.specs.Derivations.{DerivationsIn, derivations_of, left_behind, without_names}
 use Rattle.c_expr.proofs.Declared.{declared_answers, declared_refused, declarator_refused, name_answers, name_refused}
 use Rattle.c_expr.proofs.Declared.{parameter_answers, parameter_refused}
@@ -53,6 +54,30 @@ use Rattle.c_expr.proofs.TypedParameters.{parameter_within, typed_end, typed_non
 use Rattle.c_expr.proofs.+typing.Goals.{parameter_lists::parameters_typed-in-Some+in_ok-push}
 use Rattle.c_expr.proofs.+typing.Goals.{parameter_lists::parameters_typed-in_default-of}
 use Rattle.c_syntax.specs.Tree as tree
+use mir.Syntax.{w128}
+use mir.Val.{of_z, to_z}
+use Rattle.std.proofs.lemmas.Int.{to_z-of_z}
+use Rattle.critical_table.specs.declared.pos.Pos.{Pos}
+use Rattle.c_syntax.specs.declared.declarator.Declarator as d
+use Rattle.c_syntax.specs.declared.specifier.Enumerator as n
+use Rattle.c_syntax.specs.declared.specifier.MemberDeclaration as m
+use Rattle.c_syntax.specs.declared.specifier.Specifier as s
+use Rattle.c_syntax.specs.Tree.{With}
+use Rattle.c_type_rules.specs.Enumerators.{first_value}
+use Rattle.c_type_rules.specs.Members.{no_member_rule}
+use Rattle.c_type_parts.specs.declared.derivations.Around.{Around}
+use Rattle.c_type_parts.specs.Tagging.{body_ended, compound_with, enumeration_with, is_union, tagged_compound}
+use Rattle.c_expr.proofs.EnumeratorValues.{bound_is_int, next_fits}
+use Rattle.c_expr.proofs.EnumeratorWalk.{enumerated_all, enumerated_next, enumerator_refused, value_refused}
+use Rattle.c_expr.proofs.GivenValues.{expression_refused, value_answers, value_next}
+use Rattle.c_expr.proofs.MemberDeclarations.{base_refused, declarators_answer, no_member_answers, rule_answers}
+use Rattle.c_expr.proofs.MemberDeclarations.{type_refused}
+use Rattle.c_expr.proofs.MemberWalk.{each_all, each_left, each_next, each_stopped, gathering_all, gathering_next}
+use Rattle.c_expr.proofs.MemberWalk.{gathering_stopped}
+use Rattle.c_expr.proofs.Smaller.{declarator_smaller, enumerator_smaller, member_smaller, specifier_smaller}
+use Rattle.c_expr.proofs.SpecifierWalk.{specifying_all, specifying_next, specifying_stopped}
+use Rattle.c_expr.proofs.TypeBodies.{begin_refused, body_refused, compound_given, enumeration_given, list_refused}
+use Rattle.c_expr.proofs.TypeBodies.{members_refused, tag_refused}
 use Rattle.c_expr.proofs.+typing.Goals as goal
 
 pub expression::used_operand-returns : goal.expression::used_operand-returns
@@ -853,3 +878,408 @@ type_names::named-returns t c =
     (env_of c.args.scopes.now c.args.types.now) (ap specifiers_of c.as_slice.ensures.value) c.no_ellipsis.ensures
     c.bare_context-context.ensures c.in_ok-of.of c.args.types.now c.specified.new.types c.declared_type.new.types
     c.specified.new.scopes c.declared_type.new.scopes c.declared_type.result c.in_ok-of.ensures c.declared_type.ensures
+
+-- ---- enumerators
+
+pub enumerators::enumerated-enumerator_value-requires : goal.enumerators::enumerated-enumerator_value-requires
+enumerators::enumerated-enumerator_value-requires t c =
+    let less = enumerator_smaller c.args.list.now c.loop-each.each-index c.each-item.result (omega arith)
+    c.each-item.is in
+    (omega (arith, c.decreases, less), c.loop-each.invariant.here)
+
+pub enumerators::enumerated-returns-in-Err : goal.enumerators::enumerated-returns-in-Err
+enumerators::enumerated-returns-in-Err t c =
+    value_refused _ c.args.list.now c.loop-each.each-index c.each-item.result (omega arith) c.each-item.is _
+    c.loop-each.types c.loop-each.scopes _ c.loop-each.invariant c.in-Err.fault c.in-Err.ensures
+
+pub enumerators::enumerated-returns-in-Err-bind_enumerator :
+    goal.enumerators::enumerated-returns-in-Err-bind_enumerator
+enumerators::enumerated-returns-in-Err-bind_enumerator t c =
+    enumerator_refused _ c.args.list.now c.loop-each.each-index c.each-item.result (omega arith) c.each-item.is _
+    c.loop-each.types c.loop-each.scopes _ c.loop-each.invariant c.in-Ok.value
+    c.enumerator_value.new.types c.enumerator_value.new.scopes c.in-Ok.ensures c.in-Err-bind_enumerator.fault
+    c.in-Err-bind_enumerator.ensures
+
+pub enumerators::enumerated-overflow_add-next : goal.enumerators::enumerated-overflow_add-next
+enumerators::enumerated-overflow_add-next t c =
+    let same : to_z w128 (of_z w128 c.in-Ok-bind_enumerator.n) ≡ c.in-Ok-bind_enumerator.n = search rules in
+    rw same
+    (next_fits c.in-Ok-bind_enumerator.n (bound_is_int c.each-item.result.pos c.each-item.result.name c.in-Ok.value
+    c.in-Ok-bind_enumerator.n (env_of c.enumerator_value.new.scopes c.enumerator_value.new.types)
+    (env_of c.bind_enumerator.new.scopes c.enumerator_value.new.types) c.in-Ok-bind_enumerator.ensures.is))
+
+pub enumerators::enumerated-loop-each-preserved : goal.enumerators::enumerated-loop-each-preserved
+enumerators::enumerated-loop-each-preserved t c =
+    let n = c.in-Ok-bind_enumerator.n in
+    let fits = next_fits n (bound_is_int c.each-item.result.pos c.each-item.result.name c.in-Ok.value
+    c.in-Ok-bind_enumerator.n (env_of c.enumerator_value.new.scopes c.enumerator_value.new.types)
+    (env_of c.bind_enumerator.new.scopes c.enumerator_value.new.types) c.in-Ok-bind_enumerator.ensures.is) in
+    let same : to_z w128 (of_z w128 n) ≡ n = search rules in
+    rw (same, to_z-of_z w128 _ fits)
+    (enumerated_next _ c.args.list.now c.loop-each.each-index c.each-item.result (omega arith) c.each-item.is _
+    c.loop-each.types c.loop-each.scopes _ c.loop-each.invariant c.in-Ok.value
+    c.enumerator_value.new.types c.enumerator_value.new.scopes c.in-Ok.ensures n c.bind_enumerator.new.scopes
+    c.in-Ok-bind_enumerator.ensures)
+
+pub enumerators::enumerated-returns : goal.enumerators::enumerated-returns
+enumerators::enumerated-returns t c =
+    enumerated_all _ c.args.list.now c.loop-each.each-index (omega arith) _ _ c.loop-each.types
+    c.loop-each.scopes c.loop-each.invariant
+
+pub enumerators::enumerator_value-returns-in-None : goal.enumerators::enumerator_value-returns-in-None
+enumerators::enumerator_value-returns-in-None t c =
+    let same : to_z w128 (of_z w128 c.args.next) ≡ c.args.next = search rules in
+    rw same (value_next _ c.args.next c.args.scopes.now c.args.types.now (ap value_of c.in-None.is) c.requires)
+
+pub enumerators::enumerator_value-returns-in-Ok : goal.enumerators::enumerator_value-returns-in-Ok
+enumerators::enumerator_value-returns-in-Ok t c =
+    let expr = expr_of c.deref.result.now in
+    let same : With (expr_of c.in-Some.expr.value) ≡ With expr = cc in
+    let place : place_of (expr_of c.deref-in-Ok.result.now) ≡ place_of expr = cc in
+    value_answers (value_of c.args.given.now) expr c.args.next c.args.types.now c.args.scopes.now
+    (ap value_of c.in-Some.is ∙ same) c.in-Ok.operand c.value_operand.new.types c.value_operand.new.scopes
+    c.place_of.result (c.place_of.ensures ∙ place) c.in-Ok.ensures c.stated_value.result c.stated_value.ensures
+
+pub enumerators::enumerator_value-returns-in-Err : goal.enumerators::enumerator_value-returns-in-Err
+enumerators::enumerator_value-returns-in-Err t c =
+    let expr = expr_of c.deref.result.now in
+    let same : With (expr_of c.in-Some.expr.value) ≡ With expr = cc in
+    expression_refused (value_of c.args.given.now) expr c.args.next c.args.types.now c.args.scopes.now
+    (ap value_of c.in-Some.is ∙ same) c.in-Err.fault c.in-Err.ensures
+
+-- ---- members
+
+pub members::member_declared-returns-in-Ok : goal.members::member_declared-returns-in-Ok
+members::member_declared-returns-in-Ok t c =
+    let declarator = declarator_of c.args.member.declarator.now in
+    let base = type_of c.args.types.now c.args.member.of in
+    rule_answers declarator base c.args.all.now c.args.scopes.now c.args.types.now c.requires.here c.in-Ok.of
+    c.add_member.new.all c.declared_type.new.types c.declared_type.new.scopes c.add_member.result c.requires.all
+    (given_as _ _ _ _ _ _ _ (ap (λ (around : Around). declared around declarator base
+    (env_of c.args.scopes.now c.args.types.now)) (sym c.no_ellipsis.ensures)) c.in-Ok.ensures) c.add_member.ensures
+
+pub members::member_declared-returns-in-Err : goal.members::member_declared-returns-in-Err
+members::member_declared-returns-in-Err t c =
+    let declarator = declarator_of c.args.member.declarator.now in
+    let base = type_of c.args.types.now c.args.member.of in
+    type_refused declarator base c.args.all.now c.args.scopes.now c.args.types.now c.requires.here c.in-Err.fault
+    (refused_as _ _ _ (ap (λ (around : Around). declared around declarator base
+    (env_of c.args.scopes.now c.args.types.now)) (sym c.no_ellipsis.ensures)) c.in-Err.ensures)
+
+pub members::member_typed-returns-then-is_empty : goal.members::member_typed-returns-then-is_empty
+members::member_typed-returns-then-is_empty t c =
+    let words = c.as_slice-specifiers.ensures.value in
+    let none = c.as_slice-declarators.ensures.value in
+    no_member_answers (specifiers_of c.args.each.now.specifiers.items) c.args.each.now.declarators.items
+    c.args.all.now c.args.scopes.now c.args.types.now c.requires.here c.no_member.result
+    (c.if-is_empty.ensures ∙ ap (λ (all : List d.Declarator). length all == 0) none) c.requires.all
+    (subst (λ (declares : Bool). Settles (no_member_rule declares)
+    (first_place (specifiers_of c.args.each.now.specifiers.items)) c.no_member.result)
+    (c.names_something.ensures ∙ ap (λ (all : List s.Specifier). names_something (specifiers_of all)) words)
+    (subst (λ (place : Pos). Settles (no_member_rule c.names_something.result) place c.no_member.result)
+    (c.first_place.ensures ∙ ap (λ (all : List s.Specifier). first_place (specifiers_of all)) words)
+    c.no_member.ensures))
+
+pub members::member_typed-returns-in-Ok : goal.members::member_typed-returns-in-Ok
+members::member_typed-returns-in-Ok t c =
+    let old = c.args.types.now in
+    let all = c.as_slice-declarators.ensures.value in
+    let base = c.in-Ok.base in
+    let mid = c.specified.new.types in
+    let inner = c.specified.new.scopes in
+    let new = c.members_declared.new.types in
+    let after = c.members_declared.new.scopes in
+    let more = c.members_declared.new.all in
+    declarators_answer (specifiers_of c.args.each.now.specifiers.items) c.args.each.now.declarators.items
+    c.args.all.now c.args.scopes.now old c.requires.here base more mid new inner after c.members_declared.result
+    (c.if-is_empty.ensures ∙ ap (λ (list : List d.Declarator). length list == 0) all) c.requires.all
+    (given_as _ _ _ _ _ _ _ (λ i. specified (sym c.bare_context.ensures i)
+    (specifiers_of (sym c.as_slice-specifiers.ensures.value i)) (env_of c.args.scopes.now old)) c.in-Ok.ensures)
+    (subst (λ (list : List d.Declarator). AnswersMore (each_left list (type_of mid base) (members_of mid c.args.all.now)
+    (env_of inner mid)) more mid after new c.members_declared.result) all c.members_declared.ensures)
+
+pub members::member_typed-returns-in-Err : goal.members::member_typed-returns-in-Err
+members::member_typed-returns-in-Err t c =
+    let all = c.as_slice-declarators.ensures.value in
+    base_refused (specifiers_of c.args.each.now.specifiers.items) c.args.each.now.declarators.items
+    c.args.all.now c.args.scopes.now c.args.types.now c.requires.here c.in-Err.fault
+    (c.if-is_empty.ensures ∙ ap (λ (list : List d.Declarator). length list == 0) all)
+    (refused_as _ _ _ (λ i. specified (sym c.bare_context.ensures i)
+    (specifiers_of (sym c.as_slice-specifiers.ensures.value i)) (env_of c.args.scopes.now c.args.types.now))
+    c.in-Err.ensures)
+
+pub members::members_declared-member_declared-requires : goal.members::members_declared-member_declared-requires
+members::members_declared-member_declared-requires t c =
+    let before = c.loop-declarator.invariant in
+    let less = declarator_smaller c.args.list.declarators.now c.loop-declarator.declarator-index
+    c.declarator-item.result (omega arith) c.declarator-item.is in (
+      omega (arith, c.decreases, less),
+      (
+        before.on.here,
+        (
+          before.is_in,
+          id_in_kept c.args.types.now c.loop-declarator.types before.on.grown c.args.list.base c.requires.base,
+        ),
+      ),
+    )
+
+pub members::members_declared-returns-in-Err : goal.members::members_declared-returns-in-Err
+members::members_declared-returns-in-Err t c =
+    each_stopped _ c.args.list.declarators.now c.loop-declarator.declarator-index c.declarator-item.result
+    (omega arith) c.declarator-item.is c.args.types.now c.loop-declarator.types c.loop-declarator.scopes
+    c.loop-declarator.all c.args.list.base c.requires.base c.loop-declarator.invariant c.in-Err.fault c.in-Err.ensures
+
+pub members::members_declared-loop-declarator-preserved : goal.members::members_declared-loop-declarator-preserved
+members::members_declared-loop-declarator-preserved t c =
+    each_next _ c.args.list.declarators.now c.loop-declarator.declarator-index c.declarator-item.result
+    (omega arith) c.declarator-item.is c.args.types.now c.loop-declarator.types c.loop-declarator.scopes
+    c.loop-declarator.all c.args.list.base c.requires.base c.loop-declarator.invariant c.member_declared.new.types
+    c.member_declared.new.scopes c.member_declared.new.all c.in-Ok.ensures
+
+pub members::members_declared-returns : goal.members::members_declared-returns
+members::members_declared-returns t c =
+    each_all _ c.args.list.declarators.now _ c.loop-declarator.declarator-index (omega arith) c.args.types.now
+    c.loop-declarator.types c.loop-declarator.scopes c.loop-declarator.all c.loop-declarator.invariant
+
+pub members::members_typed-member_typed-requires : goal.members::members_typed-member_typed-requires
+members::members_typed-member_typed-requires t c =
+    let less = member_smaller c.args.list.now c.loop-each.each-index c.each-item.result (omega arith) c.each-item.is in
+    (omega (arith, c.decreases, less), (c.loop-each.invariant.on.here, c.loop-each.invariant.is_in))
+
+pub members::members_typed-returns-in-Err : goal.members::members_typed-returns-in-Err
+members::members_typed-returns-in-Err t c =
+    gathering_stopped _ c.args.list.now c.loop-each.each-index c.each-item.result (omega arith) c.each-item.is
+    c.args.types.now c.loop-each.types c.loop-each.scopes c.loop-each.all c.loop-each.invariant c.in-Err.fault
+    c.in-Err.ensures
+
+pub members::members_typed-loop-each-preserved : goal.members::members_typed-loop-each-preserved
+members::members_typed-loop-each-preserved t c =
+    gathering_next _ c.args.list.now c.loop-each.each-index c.each-item.result (omega arith) c.each-item.is
+    c.args.types.now c.loop-each.types c.loop-each.scopes c.loop-each.all c.loop-each.invariant
+    c.member_typed.new.types c.member_typed.new.scopes c.member_typed.new.all c.in-Ok.ensures
+
+pub members::members_typed-returns : goal.members::members_typed-returns
+members::members_typed-returns t c =
+    gathering_all _ c.args.list.now c.loop-each.each-index (omega arith) c.args.types.now c.loop-each.types
+    c.loop-each.scopes c.loop-each.all c.loop-each.invariant
+
+-- ---- structures, unions and enumerations
+
+pub specifiers::compound-returns-in-Err : goal.specifiers::compound-returns-in-Err
+specifiers::compound-returns-in-Err t c =
+    begin_refused c.args.head.is_union c.args.head.pos c.args.head.tag.now
+    (λ env. members_typed (members (map member_of c.args.list.now)) no_members env) c.args.types.now c.args.scopes.now
+    c.requires c.in-Err.fault c.in-Err.ensures
+
+pub specifiers::compound-returns-in-Err-members_typed : goal.specifiers::compound-returns-in-Err-members_typed
+specifiers::compound-returns-in-Err-members_typed t c =
+    members_refused c.args.head.is_union c.args.head.pos c.args.head.tag.now
+    (λ env. members_typed (members (map member_of c.args.list.now)) no_members env) c.args.types.now c.args.scopes.now
+    c.requires c.in-Ok.of c.begun_compound.new.types c.begun_compound.new.scopes c.in-Ok.ensures
+    c.in-Err-members_typed.fault c.in-Err-members_typed.ensures
+
+pub specifiers::compound-returns-in-Err-end_body : goal.specifiers::compound-returns-in-Err-end_body
+specifiers::compound-returns-in-Err-end_body t c =
+    let of = c.in-Ok.of in
+    let all = c.in-Ok-members_typed.all in
+    let mid = c.members_typed.new.types in
+    let inner = c.members_typed.new.scopes in
+    body_refused c.args.head.is_union c.args.head.pos c.args.head.tag.now
+    (λ env. members_typed (members (map member_of c.args.list.now)) no_members env) c.args.types.now c.args.scopes.now
+    c.requires of c.begun_compound.new.types c.begun_compound.new.scopes c.in-Ok.ensures all mid inner
+    c.in-Ok-members_typed.ensures c.in-Err-end_body.fault
+    (subst (λ (place : Pos). Refused (body_ended c.args.head.is_union place (type_of mid of) (members_of mid all)
+    (env_of inner mid)) c.in-Err-end_body.fault) c.compound_place.ensures c.in-Err-end_body.ensures)
+
+pub specifiers::compound-returns-in-Ok-end_tag : goal.specifiers::compound-returns-in-Ok-end_tag
+specifiers::compound-returns-in-Ok-end_tag t c =
+    let of = c.in-Ok.of in
+    let all = c.in-Ok-members_typed.all in
+    let mid = c.members_typed.new.types in
+    let inner = c.members_typed.new.scopes in
+    let new = c.end_body.new.types in
+    compound_given c.args.head.is_union c.args.head.pos c.args.head.tag.now
+    (λ env. members_typed (members (map member_of c.args.list.now)) no_members env) c.args.types.now c.args.scopes.now
+    c.requires of c.begun_compound.new.types c.begun_compound.new.scopes c.in-Ok.ensures all mid inner
+    c.in-Ok-members_typed.ensures new c.end_tag.new.scopes
+    (subst (λ (place : Pos). Given (body_ended c.args.head.is_union place (type_of mid of) (members_of mid all)
+    (env_of inner mid)) tt (λ t. Unit {0}) mid inner new) c.compound_place.ensures c.in-Ok-end_body.ensures)
+    c.in-Ok-end_tag.ensures
+
+pub specifiers::enumeration-returns-in-Err : goal.specifiers::enumeration-returns-in-Err
+specifiers::enumeration-returns-in-Err t c =
+    tag_refused c.args.tag.now (λ env. enumerated (enumerators (map enumerator_of c.args.list.now)) first_value env)
+    c.args.types.now c.args.scopes.now c.requires c.in-Err.fault c.in-Err.ensures
+
+pub specifiers::enumeration-returns-in-Err-enumerated : goal.specifiers::enumeration-returns-in-Err-enumerated
+specifiers::enumeration-returns-in-Err-enumerated t c =
+    list_refused c.args.tag.now (λ env. enumerated (enumerators (map enumerator_of c.args.list.now)) first_value env)
+    c.args.types.now c.args.scopes.now c.requires c.in-Ok.of c.begun_enumeration.new.types
+    c.begun_enumeration.new.scopes c.in-Ok.ensures c.in-Err-enumerated.fault c.in-Err-enumerated.ensures
+
+pub specifiers::enumeration-returns-in-Ok-end_tag : goal.specifiers::enumeration-returns-in-Ok-end_tag
+specifiers::enumeration-returns-in-Ok-end_tag t c =
+    enumeration_given c.args.tag.now
+    (λ env. enumerated (enumerators (map enumerator_of c.args.list.now)) first_value env) c.args.types.now
+    c.args.scopes.now c.requires c.in-Ok.of c.begun_enumeration.new.types c.begun_enumeration.new.scopes
+    c.in-Ok.ensures c.enumerated.new.types c.enumerated.new.scopes c.end_tag.new.scopes c.in-Ok-enumerated.ensures
+    c.in-Ok-end_tag.ensures
+
+-- ---- specifiers
+
+pub specifiers::specified-one_specified-requires : goal.specifiers::specified-one_specified-requires
+specifiers::specified-one_specified-requires t c =
+    let before = c.loop-specifier.invariant in
+    let less = specifier_smaller c.args.specifiers.now c.loop-specifier.specifier-index c.specifier-item.result
+    (omega arith) c.specifier-item.is in (
+      omega (arith, c.decreases, less),
+      (
+        before.on.here,
+        (
+          option_in_kept c.args.types.now c.loop-specifier.types before.on.grown c.in-Ok.outline.typedef
+              c.in-Ok.ensures.is_in,
+          before.is_in,
+        ),
+      ),
+    )
+
+pub specifiers::specified-returns-in-Err-one_specified : goal.specifiers::specified-returns-in-Err-one_specified
+specifiers::specified-returns-in-Err-one_specified t c =
+    specifying_stopped c.args.context c.args.specifiers.now (env_of c.args.scopes.now c.args.types.now)
+    c.args.types.now c.loop-specifier.types c.loop-specifier.scopes c.loop-specifier.before c.in-Ok.outline
+    c.in-Ok.ensures.is c.in-Ok.ensures.is_in c.loop-specifier.specifier-index c.specifier-item.result (omega arith)
+    c.specifier-item.is c.loop-specifier.invariant c.in-Err-one_specified.fault c.in-Err-one_specified.ensures
+
+pub specifiers::specified-loop-specifier-preserved : goal.specifiers::specified-loop-specifier-preserved
+specifiers::specified-loop-specifier-preserved t c =
+    specifying_next c.args.context c.args.specifiers.now (env_of c.args.scopes.now c.args.types.now)
+    c.args.types.now c.loop-specifier.types c.loop-specifier.scopes c.loop-specifier.before c.in-Ok.outline
+    c.in-Ok.ensures.is c.in-Ok.ensures.is_in c.loop-specifier.specifier-index c.specifier-item.result (omega arith)
+    c.specifier-item.is c.loop-specifier.invariant c.one_specified.new.types c.one_specified.new.scopes
+    c.in-Ok-one_specified.next c.in-Ok-one_specified.ensures
+
+pub specifiers::specified-returns-in-Ok-qualified_type : goal.specifiers::specified-returns-in-Ok-qualified_type
+specifiers::specified-returns-in-Ok-qualified_type t c =
+    specifying_all c.args.context c.args.specifiers.now (env_of c.args.scopes.now c.args.types.now) c.args.types.now
+    c.loop-specifier.types c.qualified_type.new.types c.loop-specifier.scopes c.loop-specifier.before
+    c.loop-specifier.specifier-index c.in-Ok-qualified_type.of (omega arith) c.loop-specifier.invariant
+    c.in-Ok-qualified_type.ensures
+
+pub specifiers::one_specified-compound-requires : goal.specifiers::one_specified-compound-requires
+specifiers::one_specified-compound-requires t c =
+    let e = ap (λ x. specifier_size (specifier_of x)) c.in-Compound.is
+    ∙ ap specifier_size (compound_tree c.in-Compound.pos c.in-Compound.word c.in-Compound.tag c.in-Compound.list) in
+    let a : members_size (members (map member_of c.as_slice.result.now))
+    ≡ members_size (members (map member_of c.in-Compound.list.items)) = cc in
+    (omega (arith, c.decreases, e, a), c.requires.here)
+
+pub specifiers::one_specified-enumeration-requires : goal.specifiers::one_specified-enumeration-requires
+specifiers::one_specified-enumeration-requires t c =
+    let e = ap (λ x. specifier_size (specifier_of x)) c.in-Enum.is
+    ∙ ap specifier_size (enum_tree c.in-Enum.field-0 c.in-Enum.tag c.in-Enum.list c.in-Enum.field-3) in
+    let a : enumerators_size (enumerators (map enumerator_of c.as_slice-in-Enum.result.now))
+    ≡ enumerators_size (enumerators (map enumerator_of c.in-Enum.list.items)) = cc in
+    (omega (arith, c.decreases, e, a), c.requires.here)
+
+pub specifiers::one_specified-returns-in-Storage : goal.specifiers::one_specified-returns-in-Storage
+unfolding one_specified
+specifiers::one_specified-returns-in-Storage t c =
+    answers_as before_of BeforeIn _ _ _ _ _ _
+    (ap (λ x. one_specified c.args.site.context (outline_of c.args.types.now c.args.site.outline.now) (specifier_of x)
+    (before_of c.args.types.now c.args.site.before) (env_of c.args.scopes.now c.args.types.now)) c.in-Storage.is)
+    (c.storage_seen.ensures c.args.scopes.now c.args.types.now c.requires.here c.requires.before)
+
+pub specifiers::one_specified-returns-in-Qualifier : goal.specifiers::one_specified-returns-in-Qualifier
+unfolding one_specified
+specifiers::one_specified-returns-in-Qualifier t c =
+    answers_as before_of BeforeIn _ _ _ _ _ _
+    (ap (λ x. one_specified c.args.site.context (outline_of c.args.types.now c.args.site.outline.now) (specifier_of x)
+    (before_of c.args.types.now c.args.site.before) (env_of c.args.scopes.now c.args.types.now)) c.in-Qualifier.is)
+    (c.qualifier_seen.ensures c.args.scopes.now c.requires.here)
+
+pub specifiers::one_specified-returns-in-Inline : goal.specifiers::one_specified-returns-in-Inline
+unfolding one_specified
+specifiers::one_specified-returns-in-Inline t c =
+    answers_as before_of BeforeIn _ _ _ _ _ _
+    (ap (λ x. one_specified c.args.site.context (outline_of c.args.types.now c.args.site.outline.now) (specifier_of x)
+    (before_of c.args.types.now c.args.site.before) (env_of c.args.scopes.now c.args.types.now)) c.in-Inline.is)
+    (c.inline_seen.ensures c.args.scopes.now c.args.types.now c.requires.here c.requires.before)
+
+pub specifiers::one_specified-returns-in-BasicWord : goal.specifiers::one_specified-returns-in-BasicWord
+unfolding one_specified
+specifiers::one_specified-returns-in-BasicWord t c =
+    answers_as before_of BeforeIn _ _ _ _ _ _
+    (ap (λ x. one_specified c.args.site.context (outline_of c.args.types.now c.args.site.outline.now) (specifier_of x)
+    (before_of c.args.types.now c.args.site.before) (env_of c.args.scopes.now c.args.types.now)) c.in-BasicWord.is)
+    (c.basic_seen.ensures c.args.scopes.now c.requires.here)
+
+pub specifiers::one_specified-returns-in-TypedefName : goal.specifiers::one_specified-returns-in-TypedefName
+unfolding one_specified
+specifiers::one_specified-returns-in-TypedefName t c =
+    let types = c.args.types.now in
+    let scopes = c.args.scopes.now in
+    answers_as before_of BeforeIn _ _ _ _ _ _
+    (ap (λ x. one_specified c.args.site.context (outline_of c.args.types.now c.args.site.outline.now) (specifier_of x)
+    (before_of c.args.types.now c.args.site.before) (env_of c.args.scopes.now c.args.types.now)) c.in-TypedefName.is)
+    (c.type_seen.ensures _ types types types scopes (c.typedef_used.ensures scopes c.requires.here))
+
+pub specifiers::one_specified-returns-in-CompoundTag : goal.specifiers::one_specified-returns-in-CompoundTag
+unfolding one_specified
+specifiers::one_specified-returns-in-CompoundTag t c =
+    let old = c.args.types.now in
+    let new = c.tagged_compound.new.types in
+    let after = c.tagged_compound.new.scopes in
+    answers_as before_of BeforeIn _ _ _ _ _ _
+    (ap (λ x. one_specified c.args.site.context (outline_of c.args.types.now c.args.site.outline.now) (specifier_of x)
+    (before_of c.args.types.now c.args.site.before) (env_of c.args.scopes.now c.args.types.now)) c.in-CompoundTag.is)
+    (c.type_seen-in-CompoundTag.ensures _ old old new after
+    (subst (λ (union : Bool). AnswersType (tagged_compound union c.in-CompoundTag.tag c.args.site.context.alone
+    (env_of c.args.scopes.now old)) old after new c.tagged_compound.result) c.is_union.ensures
+    c.tagged_compound.ensures))
+
+pub specifiers::one_specified-returns-in-EnumTag : goal.specifiers::one_specified-returns-in-EnumTag
+unfolding one_specified
+specifiers::one_specified-returns-in-EnumTag t c =
+    let types = c.args.types.now in
+    let scopes = c.args.scopes.now in
+    answers_as before_of BeforeIn _ _ _ _ _ _
+    (ap (λ x. one_specified c.args.site.context (outline_of c.args.types.now c.args.site.outline.now) (specifier_of x)
+    (before_of c.args.types.now c.args.site.before) (env_of c.args.scopes.now c.args.types.now)) c.in-EnumTag.is)
+    (c.type_seen-in-EnumTag.ensures _ types types types scopes c.tagged_enumeration.ensures)
+
+pub specifiers::one_specified-returns-in-Compound : goal.specifiers::one_specified-returns-in-Compound
+unfolding one_specified
+specifiers::one_specified-returns-in-Compound t c =
+    let old = c.args.types.now in
+    let new = c.compound.new.types in
+    let after = c.compound.new.scopes in
+    let pos = c.in-Compound.pos in
+    let tag = c.in-Compound.tag in
+    answers_as before_of BeforeIn _ _ _ _ _ _
+    (ap (λ x. one_specified c.args.site.context (outline_of c.args.types.now c.args.site.outline.now) x
+    (before_of c.args.types.now c.args.site.before) (env_of c.args.scopes.now c.args.types.now))
+    (ap specifier_of c.in-Compound.is ∙ compound_tree pos c.in-Compound.word tag c.in-Compound.list))
+    (c.type_seen-in-Compound.ensures _ old old new after
+    (subst (λ (list : List m.MemberDeclaration). AnswersType (compound_with (is_union c.in-Compound.word) pos tag
+    (λ env. members_typed (members (map member_of list)) no_members env) (env_of c.args.scopes.now old)) old after new
+    c.compound.result) c.as_slice.ensures.value
+    (subst (λ (union : Bool). AnswersType (compound_with union pos tag
+    (λ env. members_typed (members (map member_of c.as_slice.result.now)) no_members env)
+    (env_of c.args.scopes.now old)) old after new c.compound.result) c.is_union-in-Compound.ensures
+    c.compound.ensures)))
+
+pub specifiers::one_specified-returns-in-Enum : goal.specifiers::one_specified-returns-in-Enum
+unfolding one_specified
+specifiers::one_specified-returns-in-Enum t c =
+    let old = c.args.types.now in
+    let new = c.enumeration.new.types in
+    let after = c.enumeration.new.scopes in
+    let tag = c.in-Enum.tag in
+    answers_as before_of BeforeIn _ _ _ _ _ _
+    (ap (λ x. one_specified c.args.site.context (outline_of c.args.types.now c.args.site.outline.now) x
+    (before_of c.args.types.now c.args.site.before) (env_of c.args.scopes.now c.args.types.now))
+    (ap specifier_of c.in-Enum.is ∙ enum_tree c.in-Enum.field-0 tag c.in-Enum.list c.in-Enum.field-3))
+    (c.type_seen-in-Enum.ensures _ old old new after
+    (subst (λ (list : List n.Enumerator). AnswersType (enumeration_with tag
+    (λ env. enumerated (enumerators (map enumerator_of list)) first_value env) (env_of c.args.scopes.now old)) old after
+    new c.enumeration.result) c.as_slice-in-Enum.ensures.value c.enumeration.ensures))
