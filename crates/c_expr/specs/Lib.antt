@@ -3,3 +3,4 @@ pub mod Operands
 pub mod Uses
 pub mod Typing
 pub mod Clauses
+pub mod Derivations

@@ -15,7 +15,7 @@ use Rattle.c_scopes.specs.Scopes.{found}
 use Rattle.c_conversions.specs.Parts.{Part}
 use Rattle.c_type_rules.specs.Arrays.{length_rule}
 use Rattle.c_type_rules.specs.Enumerators.{given_value_rule, first_value, next_value}
-use Rattle.c_type_rules.specs.Members.{member_rule, no_member_rule}
+use Rattle.c_type_rules.specs.Members.{no_member_rule}
 use Rattle.c_type_rules.specs.Qualified.{quals_of_words}
 use Rattle.c_type_rules.specs.declared.context.Context.{Context}
 use Rattle.c_type_rules.specs.declared.context.Setting.TheVariants as setting
@@ -26,9 +26,11 @@ use Rattle.c_expr_rules.specs.Pointers.{index_rule}
 use Rattle.c_expr_rules.specs.Primary.{literal_rule, name_rule}
 use Rattle.c_type_parts.specs.Answers.{Answer, Gives, and_then, settle}
 use Rattle.c_type_parts.specs.declared.derivations.Around.{Around}
-use Rattle.c_type_parts.specs.Declaring.{ToPointer, Derived, of_derivations, own_around, no_ellipsis, is_alone, parameter_of}
-use Rattle.c_type_parts.specs.Declaring.{and_type, plain_derived, array_derived, function_derived, is_first, TypedMembers}
-use Rattle.c_type_parts.specs.Declaring.{no_members, with_member, name_or_none, enumerator_bound}
+use Rattle.c_type_parts.specs.Declaring.{ToPointer, Derived, of_derivations, own_around, no_ellipsis, is_alone}
+use Rattle.c_type_parts.specs.Declaring.{parameter_of}
+use Rattle.c_type_parts.specs.Declaring.{and_type, plain_derived, array_derived, function_derived, is_first}
+use Rattle.c_type_parts.specs.Declaring.{TypedMembers}
+use Rattle.c_type_parts.specs.Declaring.{no_members, member_added, name_or_none, enumerator_bound}
 use Rattle.c_type_parts.specs.Environments.{scope_entered, scope_left}
 use Rattle.c_expr.specs.Operands.{constant_rule, units_among, callee_parameters, callee_varies, first_of}
 use Rattle.c_expr.specs.Operands.{behind_first, whole_usage, selection_rule, prefix_usage, prefixed_rule}
@@ -142,11 +144,10 @@ unfoldable mutual
   pub each_member : Declarators → CType → TypedMembers → Env → Answer TypedMembers
   each_member tree.NoDeclarator base earlier env = Gives earlier env
   each_member (tree.MoreDeclarators first rest) base earlier env =
-      and_then (of_derivations (place_in (name_in first)) start base
+      and_then (and_then (of_derivations (place_in (name_in first)) start base
       (derived (own_around first (no_ellipsis start)) first env)) (λ type env.
-      and_then (settle (own_place first start) env
-      (member_rule env.structures earlier.names (name_or_none (name_in first)) type)) (λ stands env.
-      each_member rest base (with_member earlier (name_or_none (name_in first)) type) env))
+      member_added (own_place first start) (name_or_none (name_in first)) type earlier env)) (λ more env.
+      each_member rest base more env)
 
   -- ---- 6.7.2.2: enumerators from a value on, each in scope behind its own value (6.2.1p7)
 
@@ -177,7 +178,8 @@ unfoldable mutual
       and_then (array_length length env) (λ n env. Gives (all ++ array_derived length n ∷ []) env))
   derived around (tree.FunctionOf inner parameters variadic) env =
       and_then (derived around inner env) (λ all env.
-      and_then (parameters_typed around.at (is_alone parameters variadic) parameters 0 (scope_entered env)) (λ types env.
+      and_then (parameters_typed around.at (is_alone parameters variadic) parameters 0 (scope_entered env))
+      (λ types env.
       Gives (all ++ function_derived types variadic (around.may_vary && is_first all) env ∷ []) (scope_left env)))
 
   pub array_length : Maybe → Env → Answer (Option ℕ)
@@ -226,4 +228,11 @@ specified context all env =
 -- what a declarator makes of a type
 abbrev pub declared : Around → Declarator → CType → Env → Answer CType
 declared around declarator base env =
-    of_derivations (place_in (name_in declarator)) around.at base (derived (own_around declarator around) declarator env)
+    of_derivations (place_in (name_in declarator)) around.at base (derived (own_around declarator around) declarator
+    env)
+
+-- one member, behind the type of its specifiers
+abbrev pub one_member : Declarator → CType → TypedMembers → Env → Answer TypedMembers
+one_member declarator base earlier env =
+    and_then (declared (no_ellipsis start) declarator base env)
+    (λ type env. member_added (own_place declarator start) (name_or_none (name_in declarator)) type earlier env)

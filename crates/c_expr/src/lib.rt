@@ -3,6 +3,16 @@
 
 pub mod applying;
 pub mod argument;
+pub mod around;
+mod call;
+pub mod declarators;
+mod enumerators;
+pub mod expression;
+mod members;
+mod node;
 pub mod operators;
+mod parameter_lists;
 pub mod primary;
+pub mod specifiers;
+pub mod type_names;
 pub mod usage;

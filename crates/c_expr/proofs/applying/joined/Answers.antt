@@ -77,7 +77,8 @@ returns-in-AssignOp c = λ scopes here.
     (ap (λ operator. joined c.args.places.at c.args.places.right operator l r (env_of scopes types)) c.in-AssignOp.is)
     (settled part_of PartIn _ _ scopes _ _ _ here
     (subst (λ (operator : Operator). Rules part_of PartIn (compound_rule (structures_of types) c.args.places.at operator
-    l r) c.args.places.at types c.compound.new.types c.compound.result) c.operator_of-in-AssignOp.ensures c.compound.ensures))
+    l r) c.args.places.at types c.compound.new.types c.compound.result) c.operator_of-in-AssignOp.ensures
+    c.compound.ensures))
 
 pub returns-in-Comma : goal.returns-in-Comma
 unfolding joined
