@@ -3,14 +3,14 @@ use Rattle.std.proofs.Common.{◌≡◌, ◌∙◌, ◌<◌, List, [], ◌∷◌
 use Rattle.std.proofs.Common.{ℕ, ◌+◌, length, take, get_or}
 use Rattle.std.specs.Prelude.{All, false}
 use Rattle.std.proofs.lemmas.List.{map-append, take_more}
-use Rattle.std.proofs.lemmas.List.Elements.{All-head, All-tail, All-nil, All-push, All-weaker}
+use Rattle.std.proofs.lemmas.List.Elements.{All-head, All-tail, All-push, All-weaker}
 use Rattle.c_types.specs.declared.shape.TypeId.{TypeId}
 use Rattle.c_types.specs.CType.{CType, CTypes, Plain, Function, Cons, no_quals, all_types, type_at, type_of, types_at}
 use Rattle.c_types.specs.Making.{Grows, MakesType}
 use Rattle.c_types.specs.Types.{Types}
 use Rattle.c_core.specs.Ids.{IdIn}
 use Rattle.c_scopes.specs.Clauses.{Makes}
-use Rattle.c_scopes.proofs.Keeps.{keeps_own, keeps_then}
+use Rattle.c_scopes.proofs.Keeps.{keeps_then}
 use Rattle.library_types.specs.LibraryTypes.{types}
 use Rattle.c_predeclared.specs.declared.prototypes.Part.{Part}
 use Rattle.c_predeclared.specs.Prototypes.{MakesParts, part_type, prototype_type}
@@ -21,7 +21,7 @@ module _ (old new : Types) (grows : Grows old new) where
   stays_in : (id : TypeId) → IdIn old id → IdIn new id
   stays_in id h = let count = grows.types.count in omega (arith, h, count)
 
-  pub all_stay_in : (ids : List TypeId) → All (λ (id : TypeId). IdIn old id) ids → All (λ (id : TypeId). IdIn new id)
+  all_stay_in : (ids : List TypeId) → All (λ (id : TypeId). IdIn old id) ids → All (λ (id : TypeId). IdIn new id)
       ids
   all_stay_in ids h = All-weaker (λ (id : TypeId). IdIn old id) (λ (id : TypeId). IdIn new id) stays_in ids h
 
@@ -34,14 +34,6 @@ module _ (old new : Types) (grows : Grows old new) where
       λ i. grows.types.same id first i ∷ all_stay ids rest i
 
 -- ---- parameters
-
--- none are made
-pub parts_none : (table : Types) → MakesParts [] table table []
-parts_none table = record {
-  are = refl;
-  are_in = All-nil (λ (id : TypeId). IdIn table id);
-  kept = keeps_own table;
-}
 
 -- one more is made
 pub parts_more : (parts : List Part) (part : Part) (old mid new : Types) (made : List TypeId) (id : TypeId)
