@@ -48,14 +48,14 @@ impl Code {
     }
 
     /// The instructions, each with its place in the unit.
-    pub(crate) fn instr_list(&self) -> &[(Instr, Pos)]
+    pub fn instr_list(&self) -> &[(Instr, Pos)]
         ensures { result.now ≡ self.now.instrs }
     {
         self.instrs.as_slice()
     }
 
     /// The functions of the unit.
-    pub(crate) fn function_list(&self) -> &[CodeFunction]
+    pub fn function_list(&self) -> &[CodeFunction]
         ensures { result.now ≡ self.now.functions }
     {
         self.functions.as_slice()
@@ -69,14 +69,14 @@ impl Code {
     }
 
     /// The texts.
-    pub(crate) fn text_list(&self) -> &[Sequence<u8>]
+    pub fn text_list(&self) -> &[Sequence<u8>]
         ensures { result.now ≡ self.now.texts }
     {
         self.texts.as_slice()
     }
 
     /// The called types.
-    pub(crate) fn called_list(&self) -> &[CodeCalled]
+    pub fn called_list(&self) -> &[CodeCalled]
         ensures { result.now ≡ self.now.types }
     {
         self.types.as_slice()

@@ -1,0 +1,4 @@
+mod EndPlaces
+mod ListPlaces
+mod StackNumbers
+mod MoreStacks
