@@ -26,6 +26,7 @@ pub mod PlainChoices
 pub mod PlainUpdates
 pub mod PlainNodes
 pub mod ValueObjects
+pub mod PlainCalls
 pub mod PlainRuns
 pub mod StatementLengths
 pub mod FullExpressions

@@ -6,16 +6,10 @@ use Rattle.run_defs.specs.Functions.{Environment}
 use Rattle.vm_code.specs.declared.instr.Instr.{Instr}
 use Rattle.vm_code.specs.declared.parts.CodeFunction.{CodeFunction}
 use Rattle.vm_code.specs.Contents.{Contents, function_at}
-use Rattle.vm_code.specs.Frames.{Activation, Frame, Active, Waiting, Place, Goes, Ends, Stuck}
+use Rattle.vm_code.specs.Frames.{Activation, Frame, Active, Waiting, Place, Goes, Ends, Stuck, LeavesAt}
 use Rattle.vm_code.specs.Machine.{fetched, acts, step_in, step, run}
 use Rattle.vm_code.proofs.Weights.{spent, by_ticks, weights, Within}
 use Rattle.vm_code.proofs.ActingOn.{within_act}
-
--- at most so many ticks are left at a place
-abbrev pub LeavesAt : ℕ → Place → Type 0
-LeavesAt t (Goes frames s) = s.ticks ≤ t
-LeavesAt t (Ends outcome s) = s.ticks ≤ t
-LeavesAt t Stuck = Unit {0}
 
 twice : (t : ℕ) → spent 1 t ≡ 2 * t
 twice zero = omega arith

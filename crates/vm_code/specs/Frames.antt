@@ -1,5 +1,5 @@
 -- Where a run of the machine stands.
-use Rattle.std.specs.Prelude.{ℕ, Bool, List}
+use Rattle.std.specs.Prelude.{ℕ, ◌≤◌, Bool, List}
 use Rattle.object_store.specs.declared.pointer.Pointer.{Pointer}
 use Rattle.lib_defs.specs.declared.value.Value.{Value}
 use Rattle.run_defs.specs.declared.library_call.Suspended.{Suspended}
@@ -33,6 +33,12 @@ pub data Place : Type 0 where
   Goes : (frames : List Frame) (s : State) → Place
   Ends : (outcome : Outcome) (s : State) → Place
   Stuck : Place
+
+-- at most so many ticks are left there
+abbrev pub LeavesAt : ℕ → Place → Type 0
+LeavesAt most (Goes frames s) = s.ticks ≤ most
+LeavesAt most (Ends outcome s) = s.ticks ≤ most
+LeavesAt most Stuck = Unit {0}
 
 -- goes on with what comes of an evaluation
 abbrev pub after : {A : Type 0} → Evaluation A → (A → State → Place) → Place
