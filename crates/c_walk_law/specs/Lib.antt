@@ -1,0 +1,4 @@
+-- The definitions of the crate, in reading order.
+pub mod InScope
+pub mod Literals
+pub mod Law
