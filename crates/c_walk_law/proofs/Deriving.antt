@@ -1,6 +1,6 @@
 -- Specifiers, declarators, parameters and enumerators make well-formed types (6.7.2, 6.7.2.2, 6.7.3, 6.7.6).
-use Rattle.std.proofs.Common.{◌≡◌, ℕ, ◌<◌, ℤ, Bool, true, false, not, cond, List, [], ◌∷◌, ◌++◌, Option, Some, None}
-use Rattle.std.proofs.Common.{IfSome}
+use Rattle.std.proofs.Common.{◌≡◌, ℕ, ◌<◌, ℤ, Bool, true, false, not, ◌&&◌, cond, List, [], ◌∷◌, ◌++◌}
+use Rattle.std.proofs.Common.{Option, Some, None, IfSome}
 use Rattle.critical_table.specs.declared.pos.Pos.{Pos}
 use Rattle.c_types.specs.declared.basic.Basic.TheVariants as b
 use Rattle.c_types.specs.CType.{CType, CTypes, Plain, Array, BasicType, Pointer, Function, Compound, Enumerated, Nil}
@@ -13,7 +13,7 @@ use Rattle.c_core.specs.Named.{Names, NamesObject}
 use Rattle.c_core.specs.Types.{IsObject}
 use Rattle.c_syntax.specs.declared.specifier.Qualifier.{Qualifier}
 use Rattle.c_syntax.specs.declared.specifier.Storage.{Storage}
-use Rattle.c_syntax.specs.Tree.{Specifiers, Declarator}
+use Rattle.c_syntax.specs.Tree.{Specifiers, Declarator, Parameters}
 use Rattle.c_scopes.specs.Env.{Env}
 use Rattle.c_scopes.specs.Named.{Named, ObjectOf, FunctionOf, TypedefOf, ConstantOf, NullPointerOf, TagOf}
 use Rattle.c_scopes.specs.Ruled.{Ruled}
@@ -26,14 +26,18 @@ use Rattle.c_type_rules.specs.Functions.{adjusted, parameter_demands, parameter_
 use Rattle.c_type_rules.specs.Qualified.{quals_of_words, restrict_rule}
 use Rattle.c_type_rules.specs.Settings.{storage_rule, inline_rule}
 use Rattle.c_type_rules.specs.Words.{basic_rule}
-use Rattle.c_type_parts.specs.Answers.{Answer, Gives, settle}
+use Rattle.c_type_parts.specs.Answers.{Answer, Gives, and_then, settle}
+use Rattle.c_type_parts.specs.declared.derivations.Around.{Around}
 use Rattle.c_type_parts.specs.Declaring.{Derivation, ToPointer, ToArray, ToFunction, Derived, derivation_rule}
 use Rattle.c_type_parts.specs.Declaring.{derivation_place, derived_type, of_derivations, fresh_rule, parameter_object}
 use Rattle.c_type_parts.specs.Declaring.{with_parameter, is_none, parameter_of, enumerator_bound}
-use Rattle.c_type_parts.specs.Environments.{with_name}
+use Rattle.c_type_parts.specs.Declaring.{function_derived, is_first, is_alone}
+use Rattle.c_type_parts.specs.Environments.{with_name, scope_entered, scope_left}
 use Rattle.c_type_parts.specs.Outlines.{Outline, Before, outline, of_type, typedef_type, typedef_seen, typedef_rule}
 use Rattle.c_type_parts.specs.Outlines.{storage_on, qualifier_on, inline_on, type_on, basic_on, of_specifiers}
 use Rattle.c_type_parts.specs.Shapes.{name_in, first_place, holds_register, typedef_in, qualifier_words}
+use Rattle.c_expr.specs.Typing as walk
+use Rattle.c_expr.proofs.Levels.{parameters_keep}
 use Rattle.c_typing_law.specs.TypedParts.{NamedTyped, IfFits}
 use Rattle.c_typing_law.specs.WellFormed.{TypeFormed, TypesFormed}
 use Rattle.c_typing_law.proofs.Facts.{fits_if}
@@ -42,7 +46,7 @@ use Rattle.c_typing_law.proofs.Stays.{stays_typed}
 use Rattle.c_walk_law.specs.InScope.{EnvTyped, GivesTyped}
 use Rattle.c_walk_law.proofs.Reaching.{gives, gives_here, then_gives, settled, settled_then, fits_then}
 use Rattle.c_walk_law.proofs.Reaching.{fits_both, fits_always}
-use Rattle.c_walk_law.proofs.Scopes.{found_typed, with_name_reaches}
+use Rattle.c_walk_law.proofs.Scopes.{found_typed, with_name_reaches, with_slots, scope_gives}
 use Rattle.c_walk_law.proofs.Tags.{IsNamed, MayBeType, Anything}
 
 -- ---- specifiers
@@ -264,6 +268,24 @@ parameter_gives names alone specifiers declarator number type env t slot h =
     gives_here names after MayBeType (Some adjusted)
     ((stays_typed env.structures after.structures reaches.kept).type adjusted is.0) reaches.typed))
     (parameter_fits env.structures type h)))
+
+-- a function behind the derivations before it, by what its parameters give in their scope
+pub function_gives : (names : Names) (around : Around) (parameters : Parameters) (variadic : Bool) (all : List Derived)
+    (env : Env) → AllDerived env.structures all → EnvTyped names env
+    → GivesTyped (with_slots names parameters) (scope_entered env) TypesFormed
+    (walk.parameters_typed around.at (is_alone parameters variadic) parameters 0 (scope_entered env))
+    → GivesTyped names env AllDerived
+    (and_then (walk.parameters_typed around.at (is_alone parameters variadic) parameters 0 (scope_entered env))
+    (λ types env.
+    Gives (all ++ function_derived types variadic (around.may_vary && is_first all) env ∷ []) (scope_left env)))
+function_gives names around parameters variadic all env are t h =
+    scope_gives names (with_slots names parameters) env TypesFormed AllDerived
+    (walk.parameters_typed around.at (is_alone parameters variadic) parameters 0 (scope_entered env))
+    (λ types env. all ++ function_derived types variadic (around.may_vary && is_first all) env ∷ []) t
+    (parameters_keep around.at (is_alone parameters variadic) parameters 0 (scope_entered env)) h
+    (λ types after is kept. derived_with after.structures all
+    (function_derived types variadic (around.may_vary && is_first all) after)
+    (derived_stay env.structures after.structures all kept are) is)
 
 -- ---- enumerators
 

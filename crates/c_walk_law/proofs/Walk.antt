@@ -1,5 +1,5 @@
 -- The walk keeps to types: an induction over the trees, one case a node.
-use Rattle.std.proofs.Common.{ℕ, ◌+◌, ◌<◌, ℤ, Bool, true, false, ◌&&◌, List, [], ◌∷◌, ◌++◌, Option, Some, None}
+use Rattle.std.proofs.Common.{ℕ, ◌+◌, ◌<◌, ℤ, Bool, true, false, List, [], ◌∷◌, ◌++◌, Option, Some, None}
 use Rattle.std.proofs.Common.{IfSome}
 use Rattle.critical_table.specs.declared.pos.Pos.{Pos}
 use Rattle.c_types.specs.CType.{CType, CTypes, Nil, Cons}
@@ -21,11 +21,11 @@ use Rattle.c_type_rules.specs.declared.context.Context.{Context}
 use Rattle.c_type_rules.specs.declared.context.Setting.TheVariants as setting
 use Rattle.c_type_parts.specs.Answers.{Gives, and_then, settle}
 use Rattle.c_type_parts.specs.declared.derivations.Around.{Around}
-use Rattle.c_type_parts.specs.Declaring.{ToPointer, Derived, own_around, no_ellipsis, is_alone}
-use Rattle.c_type_parts.specs.Declaring.{and_type, plain_derived, array_derived, function_derived}
-use Rattle.c_type_parts.specs.Declaring.{is_first, TypedMembers, no_members, member_added, name_or_none}
+use Rattle.c_type_parts.specs.Declaring.{ToPointer, own_around, no_ellipsis, is_alone}
+use Rattle.c_type_parts.specs.Declaring.{and_type, plain_derived, array_derived}
+use Rattle.c_type_parts.specs.Declaring.{TypedMembers, no_members, member_added, name_or_none}
 use Rattle.c_type_parts.specs.Declaring.{enumerator_bound}
-use Rattle.c_type_parts.specs.Environments.{scope_entered, scope_left}
+use Rattle.c_type_parts.specs.Environments.{scope_entered}
 use Rattle.c_type_parts.specs.Outlines.{Outline, Before, nothing, outline, bare_context}
 use Rattle.c_type_parts.specs.Shapes.{place_of, name_in, place_in, own_place, first_place, names_something, start}
 use Rattle.c_type_parts.specs.Tagging as tagging
@@ -33,7 +33,6 @@ use Rattle.c_expr.specs.Operands.{two_values, callee_parameters, callee_varies, 
 use Rattle.c_expr.specs.Operands.{prefix_usage, cast_usage, infix_usages, choice_usages}
 use Rattle.c_expr.specs.Typing as walk
 use Rattle.c_expr.specs.Uses.{as_used, as_value, as_test, as_argument, side_as, both}
-use Rattle.c_expr.proofs.Levels.{parameters_keep}
 use Rattle.c_expr_rules.specs.Targets.{type_of_part}
 use Rattle.c_typing_law.specs.Law.{IsValue}
 use Rattle.c_typing_law.specs.TypedParts.{PartTyped, ArgumentsTyped}
@@ -46,7 +45,7 @@ use Rattle.c_typing_law.proofs.Reached.{index_typed}
 use Rattle.c_typing_law.proofs.Stays.{stays_typed}
 use Rattle.c_typing_law.proofs.Stored.{assignment_rules_typed}
 use Rattle.c_walk_law.specs.InScope.{EnvTyped, GivesTyped}
-use Rattle.c_walk_law.specs.Law.{IsNeeded, IsCore, WalkKeepsTypes}
+use Rattle.c_walk_law.specs.Law.{IsNeeded}
 use Rattle.c_walk_law.specs.Literals.{LiteralsInExpr, LiteralsInExprs, LiteralsInMaybe, LiteralsInTypeName}
 use Rattle.c_walk_law.specs.Literals.{LiteralsInSpecifier, LiteralsInSpecifiers, LiteralsInMember, LiteralsInMembers}
 use Rattle.c_walk_law.specs.Literals.{LiteralsInDeclarators, LiteralsInEnumerators, LiteralsInDeclarator}
@@ -54,13 +53,13 @@ use Rattle.c_walk_law.specs.Literals.{LiteralsInParameter, LiteralsInParameters}
 use Rattle.c_walk_law.proofs.Deriving.{BeforeFormed, OutlineFormed, outline_formed, may_be_stays, storage_gives}
 use Rattle.c_walk_law.proofs.Deriving.{qualifier_gives, inline_gives, basic_gives, type_gives, typedef_gives}
 use Rattle.c_walk_law.proofs.Deriving.{specifiers_give, AllDerived, derived_with, types_stay, derived_stay}
-use Rattle.c_walk_law.proofs.Deriving.{derivations_give, parameter_gives, enumerator_gives}
+use Rattle.c_walk_law.proofs.Deriving.{derivations_give, function_gives, parameter_gives, enumerator_gives}
 use Rattle.c_walk_law.proofs.Operands.{value_stays, used_gives, value_gives, IsTest, test_gives}
 use Rattle.c_walk_law.proofs.Operands.{OperandTyped, side_gives, BothTyped, both_give, constant_fits, selection_fits}
 use Rattle.c_walk_law.proofs.Operands.{prefixed_fits, measure_fits, cast_fits, joined_gives, callee_formed, IsArgument}
 use Rattle.c_walk_law.proofs.Operands.{first_formed, behind_formed, arguments_with, argument_gives}
-use Rattle.c_walk_law.proofs.Reaching.{gives_here, then_gives, settled, settled_then, fits_then, fits_always}
-use Rattle.c_walk_law.proofs.Scopes.{found_typed, with_slots, SlotsNamed, all_slots, entered_typed, scope_gives}
+use Rattle.c_walk_law.proofs.Reaching.{gives_here, then_gives, settled, settled_then, fits_always}
+use Rattle.c_walk_law.proofs.Scopes.{found_typed, with_slots, SlotsNamed, all_slots, entered_typed}
 use Rattle.c_walk_law.proofs.Tags.{MayBeType, Anything, tagged_gives, tagged_enumeration_gives, MembersTyped}
 use Rattle.c_walk_law.proofs.Tags.{no_members_typed, member_added_gives, members_stay, compound_gives}
 use Rattle.c_walk_law.proofs.Tags.{enumeration_gives}
@@ -84,24 +83,6 @@ types_with : (structures : List Structure) (type : Option CType) (types : CTypes
     → TypesFormed structures types → TypesFormed structures (and_type type types)
 types_with structures None types h g = g
 types_with structures (Some type) types h g = (h, g)
-
--- a function behind the derivations before it, by what its parameters give in their scope
-function_gives : (names : Names) (around : Around) (parameters : Parameters) (variadic : Bool) (all : List Derived)
-    (env : Env) → AllDerived env.structures all → EnvTyped names env
-    → GivesTyped (with_slots names parameters) (scope_entered env) TypesFormed
-    (walk.parameters_typed around.at (is_alone parameters variadic) parameters 0 (scope_entered env))
-    → GivesTyped names env AllDerived
-    (and_then (walk.parameters_typed around.at (is_alone parameters variadic) parameters 0 (scope_entered env))
-    (λ types env.
-    Gives (all ++ function_derived types variadic (around.may_vary && is_first all) env ∷ []) (scope_left env)))
-function_gives names around parameters variadic all env are t h =
-    scope_gives names (with_slots names parameters) env TypesFormed AllDerived
-    (walk.parameters_typed around.at (is_alone parameters variadic) parameters 0 (scope_entered env))
-    (λ types env. all ++ function_derived types variadic (around.may_vary && is_first all) env ∷ []) t
-    (parameters_keep around.at (is_alone parameters variadic) parameters 0 (scope_entered env)) h
-    (λ types after is kept. derived_with after.structures all
-    (function_derived types variadic (around.may_vary && is_first all) after)
-    (derived_stay env.structures after.structures all kept are) is)
 
 mutual
   unfolding walk.typed
@@ -218,8 +199,8 @@ mutual
       derivations_give names (place_in (name_in declarator)) around base _ after formed
       (derived_gives names (own_around declarator (no_ellipsis around)) declarator after h.1 reaches.typed))
 
-  each_gives : (names : Names) (context : Context) (whole : Outline) (all : Specifiers) (before : Before) (env : Env)
-      → LiteralsInSpecifiers names.statics all → OutlineFormed env.structures whole
+  pub each_gives : (names : Names) (context : Context) (whole : Outline) (all : Specifiers) (before : Before)
+      (env : Env) → LiteralsInSpecifiers names.statics all → OutlineFormed env.structures whole
       → BeforeFormed env.structures before → EnvTyped names env
       → GivesTyped names env BeforeFormed (walk.each_specified context whole all before env)
   each_gives names context whole tree.NoSpecifier before env h outlined formed t =
@@ -321,7 +302,7 @@ mutual
       settled names after Anything (place_of given) (given_value_rule (constant_of v.core)) reaches.typed
       (fits_always (Anything after.structures) (given_value_rule (constant_of v.core)) (λ n. tt)))
 
-  derived_gives : (names : Names) (around : Around) (declarator : Declarator) (env : Env)
+  pub derived_gives : (names : Names) (around : Around) (declarator : Declarator) (env : Env)
       → LiteralsInDeclarator names.statics declarator → EnvTyped names env
       → GivesTyped names env AllDerived (walk.derived around declarator env)
   derived_gives names around tree.Omitted env h t = gives_here names env AllDerived [] tt t
@@ -389,39 +370,3 @@ mutual
       (derived_gives names (own_around declarator (no_ellipsis around)) declarator after h.1 reaches.typed))
       (λ type last is walked.
       parameter_gives names alone specifiers declarator number type last walked.typed slot is))
-
--- ---- the law
-
-list_gives : (names : Names) (context : Context) (all : Specifiers) (env : Env)
-    → LiteralsInSpecifiers names.statics all → EnvTyped names env
-    → GivesTyped names env TypeFormed (walk.specified context all env)
-list_gives names context all env h t =
-    specifiers_give names all (walk.each_specified context (outline all env) all nothing env) env
-    (each_gives names context (outline all env) all nothing env h (outline_formed names all env t) tt t)
-
-declarator_gives : (names : Names) (around : Around) (declarator : Declarator) (base : CType) (env : Env)
-    → LiteralsInDeclarator names.statics declarator → EnvTyped names env → TypeFormed env.structures base
-    → GivesTyped names env TypeFormed (walk.declared around declarator base env)
-declarator_gives names around declarator base env h t formed =
-    derivations_give names (place_in (name_in declarator)) around.at base
-    (walk.derived (own_around declarator around) declarator env) env formed
-    (derived_gives names (own_around declarator around) declarator env h t)
-
-core_gives : (names : Names) (e : Expr) (env : Env) → LiteralsInExpr names.statics e → EnvTyped names env
-    → GivesTyped names env (IsCore names) (walk.value_of e env)
-core_gives names e env h t =
-    then_gives names env (IsNeeded names) (IsCore names) (walk.valued e env) _
-    (value_gives names (place_of e) env (walk.typed true e env) (typed_gives names true e env h t))
-    (λ v after is reaches. gives_here names after (IsCore names) v.core is.0.core reaches.typed)
-
-pub walk_keeps_types : WalkKeepsTypes
-walk_keeps_types = record {
-  expression = λ names e env h t. record {
-    part = λ used. typed_gives names used e env h t;
-    value = value_gives names (place_of e) env (walk.typed true e env) (typed_gives names true e env h t);
-    core = core_gives names e env h t;
-  };
-  type_name = type_name_gives;
-  specifiers = list_gives;
-  declarator = declarator_gives;
-}
