@@ -1,0 +1,25 @@
+//! Reads a table of texts, each with the type that it stands for or the constraint that it breaks, and tells which rows
+//! the walk over types and expressions answers otherwise.
+#![tactic(auto)]
+
+mod answers;
+mod declaring;
+mod storage;
+mod table;
+#[cfg(test)]
+mod tests;
+mod words;
+
+use std::io;
+use table::Table;
+
+fn main(rt: HostRuntime) -> io::Result<()> {
+    let mut table = Table::new(rt.alloc());
+    for line in rt.lines(rt.alloc()) {
+        let line = line?;
+        if let Some(difference) = table.difference_at(line.as_str())? {
+            println!(rt; "{difference}")?;
+        }
+    }
+    println!(rt; "{} rows", table.rows)
+}
