@@ -20,7 +20,7 @@ use Rattle.c_core.specs.Tree as tree
 use Rattle.c_core.specs.TreeUnit.{Statement, Stands, Action, Statements, NoStatement, MoreStatements}
 use Rattle.c_core.specs.TreeUnit as unit
 use Rattle.c_core.specs.Named.{Names}
-use Rattle.c_core.specs.Typed.{CoreTyped}
+use Rattle.c_core.specs.Typed.{CoreTyped, ArePassed, IsCalled}
 use Rattle.c_core.specs.TypedUnit.{Flow, StatementTyped}
 
 -- ---- short words for the examples
@@ -141,7 +141,7 @@ add_int h = let differ = h.1.2 in cc
 call : CoreTyped names
     (At int (here 3) (tree.Call true (Some (content.Scalar (scalar.Number k.I32))) (function of_int)
     (MoreCores (one 1) NoCore)))
-call = (refl, (refl, (tt, refl), (small 1 (lit≤ tt), tt), (refl, (refl, tt)), (lit< tt, lit≤ tt), tt))
+call = (refl, (refl, (tt, refl), (small 1 (lit≤ tt), tt), (refl, (refl, tt, tt)), (lit< tt, lit≤ tt), tt))
 
 -- an argument is missing, or one too many
 missing_argument : CoreTyped names
@@ -152,7 +152,7 @@ missing_argument h = h.1.3.1
 too_many : CoreTyped names
     (At int (here 3) (tree.Call true (Some (content.Scalar (scalar.Number k.I32))) (function of_int)
     (MoreCores (one 1) (MoreCores (one 1) NoCore)))) → ⊥
-too_many h = h.1.3.1.1
+too_many h = h.1.3.1.2
 
 -- the value of a void call is used
 use_of_void : CoreTyped names (At void (here 3) (tree.Call true None (function of_any) (MoreCores (one 1) NoCore))) → ⊥
@@ -161,11 +161,18 @@ use_of_void h = h.1.5
 -- void f(int, ...): numbers and pointers may follow, a structure may not
 further : CoreTyped names (At void (here 3) (tree.Call false None (function of_any)
     (MoreCores (one 1) (MoreCores (one_long 2) NoCore))))
-further = (tt, (refl, (tt, refl), (small 1 (lit≤ tt), (small_long 2 (lit≤ tt), tt)), (refl, (refl, (tt, tt))), tt, tt))
+further = (tt, (refl, (tt, refl), (small 1 (lit≤ tt), (small_long 2 (lit≤ tt), tt)), further_passed, tt, tt))
+  where
+    further_passed : IsCalled (to of_any) None (MoreCores (one 1) (MoreCores (one_long 2) NoCore))
+    further_passed = (refl, (refl, tt, (tt, tt)))
 
 structure_further : CoreTyped names (At void (here 3) (tree.Call false None (function of_any)
     (MoreCores (one 1) (MoreCores (local structure 1) NoCore)))) → ⊥
-structure_further h = h.1.3.1.1.0
+structure_further h = h.1.3.1.2.0
+
+-- what leaves nothing is no argument, for a parameter of type `void` neither
+no_value_passed : ArePassed (Cons void Nil) false (MoreCores (At void (here 1) (tree.Discard (one 1))) NoCore) → ⊥
+no_value_passed h = h.1
 
 -- ---- statements
 

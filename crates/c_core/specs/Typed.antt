@@ -41,14 +41,14 @@ abbrev pub IsStep : Change → Type 0
 IsStep (change.Number operator held at) = Unit {0}
 IsStep (change.Pointer stride) = IsStride stride
 
--- Each parameter is given what a value of its type is, and what goes beyond them is a number or a pointer (6.5.2.2p2).
+-- Each parameter is given a value as its type has them, and what goes beyond them is a number or a pointer (6.5.2.2p2).
 abbrev pub ArePassed : CTypes → Bool → Cores → Type 0
 ArePassed Nil variadic NoCore = Unit {0}
 ArePassed Nil true (MoreCores first rest) = IsScalar (form_of first) × ArePassed Nil true rest
 ArePassed Nil false (MoreCores first rest) = ⊥
 ArePassed (Cons type types) variadic NoCore = ⊥
 ArePassed (Cons type types) variadic (MoreCores first rest) =
-    (value_form type ≡ Some (form_of first)) × ArePassed types variadic rest
+    (value_form type ≡ Some (form_of first)) × IsLeft (form_of first) × ArePassed types variadic rest
 
 -- The type is a pointer to a function that gives this and takes these arguments (6.5.2.2p1, p2).
 abbrev pub IsCalled : CType → Option Content → Cores → Type 0

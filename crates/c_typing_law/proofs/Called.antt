@@ -35,7 +35,7 @@ use Rattle.c_typing_law.specs.Law.{GivesPart, GivesCore}
 use Rattle.c_typing_law.specs.TypedParts.{ValueTyped, PartTyped, Leaves, ArgumentsTyped, IfFits}
 use Rattle.c_typing_law.specs.WellFormed.{TypeFormed, LayoutFormed, StructuresFormed}
 use Rattle.c_typing_law.proofs.Converted.{pointer_left, promoted_typed, stays, AssignedTyped, NumberTyped}
-use Rattle.c_typing_law.proofs.Converted.{assigned_typed, argument_typed}
+use Rattle.c_typing_law.proofs.Converted.{assigned_typed, argument_typed, converted_value}
 use Rattle.c_typing_law.proofs.Facts.{fits_if, both_hold, either_holds, first_holds, second_holds, either_way}
 use Rattle.c_typing_law.proofs.Facts.{not_holds}
 use Rattle.c_typing_law.proofs.Facts.{unless_not, both_true}
@@ -128,7 +128,7 @@ module _ (names : Names) where
   all_passed (Cons type types) variadic (MoreCores first rest) enough h =
       let more : CoresTyped names rest × ArePassed types variadic rest =
       all_passed types variadic rest (fewer variadic (count_of_types types) (count_of_cores rest) enough) h.1 in
-      ((h.0.core, more.0), (h.0.form, more.1))
+      ((h.0.core, more.0), (h.0.form, h.0.value, more.1))
 
 module _ (names : Names) (structures : List Structure) (formed : StructuresFormed structures) where
   record CallTyped (function : CType) (given : Cores) : Type 0 where
@@ -205,7 +205,8 @@ module _ (names : Names) (structures : List Structure) (formed : StructuresForme
       fits_if (Leaves names type) (pass_demands type part) (passed structures type part)
       (λ hold. let made : AssignedTyped names structures type (assigned type part) =
       assigned_typed names structures type part h v hold.0 in
-      argument_typed names structures formed (assigned type part) type made.is made.left)
+      argument_typed names structures formed (assigned type part) type made.is made.left
+      (converted_value type part (form_of (assigned type part)) hold.0 made.left))
 
   further_value : (part : Part) → ValueTyped names structures part.core → is_void (type_of_part part) ≡ false
       → is_compound (type_of_part part) ≡ false

@@ -103,6 +103,20 @@ left_unless_void (Plain (Function gives parameters variadic) quals) f h e = cc
 left_unless_void (Plain (Compound number) quals) f h e = left_form f (λ n. cc)
 left_unless_void (Array of len) f h e = cc
 
+-- nothing is converted to `void` as if by assignment
+converts_unless_void : (type : CType) (part : Part) → converts type part ≡ true → is_void type ≡ false
+converts_unless_void (Plain (BasicType b.Void) quals) part h = cc
+converts_unless_void (Plain (BasicType basic) quals) part h = refl
+converts_unless_void (Plain (Pointer of) quals) part h = refl
+converts_unless_void (Plain (Enumerated number) quals) part h = refl
+converts_unless_void (Plain (Function gives parameters variadic) quals) part h = refl
+converts_unless_void (Plain (Compound number) quals) part h = refl
+converts_unless_void (Array of len) part h = refl
+
+pub converted_value : (type : CType) (part : Part) (f : Form) → converts type part ≡ true → value_form type ≡ Some f
+    → IsLeft f
+converted_value type part f h e = left_unless_void type f (converts_unless_void type part h) e
+
 -- what is a version of a structure or union is one itself
 pub compound_version : (number : ℕ) (quals : Quals) (from : CType)
     → are_versions (Plain (Compound number) quals) from ≡ true → value_form from ≡ Some form.Place
@@ -341,11 +355,11 @@ module _ (names : Names) (structures : List Structure) where
   -- ---- arguments
 
   module _ (formed : StructuresFormed structures) where
-    argument_by : (core : Core) (type : CType) → Value core → value_form type ≡ Some (form_of core) → (is_one : Bool)
-        → is_compound (type_in core) ≡ is_one
+    argument_by : (core : Core) (type : CType) → Value core → value_form type ≡ Some (form_of core)
+        → IsLeft (form_of core) → (is_one : Bool) → is_compound (type_in core) ≡ is_one
         → Leaves names type (cond is_one
         (At (type_in core) (pos_in core) (tree.ValueObject (size_in (layout_of (type_in core) structures)) core)) core)
-    argument_by core type v left true h = record {
+    argument_by core type v left is_value true h = record {
       core = (
         (let P : Form → Type 0 = HasForm (type_in core) in
             subst P (compound_left core v h) (has_form names core v.core)),
@@ -357,12 +371,14 @@ module _ (names : Names) (structures : List Structure) where
         ),
       );
       form = left ∙ ap Some (compound_left core v h);
+      value = tt;
     }
-    argument_by core type v left false h = record { core = v.core; form = left }
+    argument_by core type v left is_value false h = record { core = v.core; form = left; value = is_value }
 
     pub argument_typed : (core : Core) (type : CType) → Value core → value_form type ≡ Some (form_of core)
-        → Leaves names type (argument structures core)
-    argument_typed core type v left = argument_by core type v left (is_compound (type_in core)) refl
+        → IsLeft (form_of core) → Leaves names type (argument structures core)
+    argument_typed core type v left is_value =
+        argument_by core type v left is_value (is_compound (type_in core)) refl
 
   -- ---- values that are not used
 

@@ -45,7 +45,7 @@ use Rattle.c_typing_law.specs.TypedParts.{ValueTyped, PlaceTyped, CategoryTyped,
 use Rattle.c_typing_law.specs.WellFormed.{StructuresFormed}
 use Rattle.c_typing_law.proofs.Binaries.{integers}
 use Rattle.c_typing_law.proofs.Converted.{number_node, pointer_value, integer_number, is_number, assigned_typed}
-use Rattle.c_typing_law.proofs.Converted.{promoted_typed, number_as_typed, NumberTyped, some_same}
+use Rattle.c_typing_law.proofs.Converted.{promoted_typed, number_as_typed, NumberTyped, some_same, converted_value}
 use Rattle.c_typing_law.proofs.Facts.{fits_if, both_hold, either_holds, not_holds, not_second, unless_not, if_either}
 use Rattle.c_typing_law.proofs.Facts.{four_hold, both_true, common_real}
 use Rattle.c_typing_law.proofs.Formed.{without_quals_formed, target_formed, unqualified_pointer}
@@ -342,14 +342,25 @@ module _ (names : Names) (structures : List Structure) (formed : StructuresForme
     convert = λ type part h v.
         fits_if (Leaves names type) (convert_demands type part) (assigned type part)
         (λ hold. let made = assigned_typed names structures type part h v hold.0 in
-        record { core = made.is.core; form = made.left });
+        record {
+          core = made.is.core;
+          form = made.left;
+          value = converted_value type part (form_of (assigned type part)) hold.0 made.left;
+        });
     assigned = λ target part p v may.
         fits_if (Leaves names (type_of_part target)) (assigned_demands structures target part)
         (assigned (type_of_part target) part)
-        (λ hold. let made = assigned_typed names structures (type_of_part target) part
-        (part_formed names structures formed target.category target.core p) v
-        (unless_not (may_hold structures target) (converts (type_of_part target) part) hold.0 may) in
-        record { core = made.is.core; form = made.left });
+        (λ hold. let may_be : converts (type_of_part target) part ≡ true =
+        unless_not (may_hold structures target) (converts (type_of_part target) part) hold.0 may in
+        let made = assigned_typed names structures (type_of_part target) part
+        (part_formed names structures formed target.category target.core p) v may_be in
+        record {
+          core = made.is.core;
+          form = made.left;
+          value =
+              converted_value (type_of_part target) part (form_of (assigned (type_of_part target) part)) may_be
+              made.left;
+        });
     assign = assign_typed;
     compound = compound_typed;
     prefix = prefix_typed;

@@ -8,7 +8,7 @@ use Rattle.c_core.specs.Forms.{form_of}
 use Rattle.c_core.specs.Named.{Names, NamesObject, NamesFunction}
 use Rattle.c_core.specs.Tree.{Core, Cores, NoCore, MoreCores, type_in, node_in}
 use Rattle.c_core.specs.Typed.{CoreTyped}
-use Rattle.c_core.specs.Types.{value_form, IsObject, IsScalar}
+use Rattle.c_core.specs.Types.{value_form, IsObject, IsScalar, IsLeft}
 use Rattle.c_scopes.specs.Named.{Named, ObjectOf, FunctionOf, TypedefOf, ConstantOf, NullPointerOf, TagOf}
 use Rattle.c_scopes.specs.Ruled.{Ruled, Fits, Breaks}
 use Rattle.c_conversions.specs.declared.operand.Category.{Category}
@@ -45,10 +45,11 @@ CategoryTyped names structures c.Designator core = ValueTyped names structures c
 abbrev pub PartTyped : Names → List Structure → Part → Type 0
 PartTyped names structures part = CategoryTyped names structures part.category part.core
 
--- A core leaves what a value of this type is.
+-- A core leaves a value as this type has them.
 pub record Leaves (names : Names) (type : CType) (held : Core) : Type 0 where
   pub core : CoreTyped names held
   pub form : value_form type ≡ Some (form_of held)
+  pub value : IsLeft (form_of held)
 
 -- The arguments that have a parameter are what values of its type are, and any further one is a scalar where the
 -- function takes it (6.5.2.2p2, p6).
