@@ -156,27 +156,27 @@ module _ (it : Running) where
       (Last : A → Type 0) (operands : List Value) (then : (a : A) → Last a → List Value) (from mid to low n : ℕ)
       (position : Pos) → AreBelow low it.frame.held → stretch.Runs it low E f from mid low (low + n)
       → ((objects : List Held) (answered : Bool) (v : Value) (s : State) → HasKind f v
-      → Reaches e code (here objects answered mid (pushed f v operands) s) (use_value v s) Last
+      → Reaches e code it.most (here objects answered mid (pushed f v operands) s) (use_value v s) Last
       (λ a last s1. here objects answered to (then a last) s1))
       → StandAt code function to (on position (kills (slots_down low n)))
       → (answered : Bool) (s : State)
-      → Reaches e code (here [] answered from operands s) (full E use_value s) (λ a. Bool × Last a)
+      → Reaches e code it.most (here [] answered from operands s) (full E use_value s) (λ a. Bool × Last a)
       (Leads (to + n) then)
   full_runs E f use_value Last operands then from mid to low n position below runs acts stands answered s =
-      reaches_bind e code _ (E [] s) _ (Left f low (low + n)) (stretch.Leads it low f (low + n) mid operands)
+      reaches_bind e code it.most _ (E [] s) _ (Left f low (low + n)) (stretch.Leads it low f (low + n) mid operands)
       (λ a. Bool × Last a) (Leads (to + n) then)
       (runs operands [] (record { objects = []; slots = tt; same = refl; answered = answered }) s)
       (λ x s1 left.
-      reaches_bind e code _ (use_value x.value s1) _ Last
+      reaches_bind e code it.most _ (use_value x.value s1) _ Last
       (λ a last s2. here left.now.objects left.now.answered to (then a last) s2) (λ a. Bool × Last a)
       (Leads (to + n) then) (acts left.now.objects left.now.answered x.value s1 left.kind)
       (λ a s2 last.
-      reaches_from e code _ (here [] left.now.answered (to + n) (then a last) (all_died x.made s2))
+      reaches_from e code it.most _ (here [] left.now.answered (to + n) (then a last) (all_died x.made s2))
       (Gives a (all_died x.made s2)) (λ a. Bool × Last a) (Leads (to + n) then)
       (subst (λ made. Comes e code (here left.now.objects left.now.answered to (then a last) s2)
       (here [] left.now.answered (to + n) (then a last) (all_died made s2))) left.now.same
       (values_die low n left.now.objects left.now.answered to (then a last) position s2 below left.now.slots stands))
-      (reaches_gives e code _ a (all_died x.made s2) (λ a. Bool × Last a) (Leads (to + n) then)
+      (reaches_gives e code it.most _ a (all_died x.made s2) (λ a. Bool × Last a) (Leads (to + n) then)
       (left.now.answered, last) refl)))
 
   -- a number, as a test
@@ -186,11 +186,12 @@ module _ (it : Running) where
   pub test_runs : (E : Evaluates) (f : Form) (from mid low n : ℕ) (position : Pos) → IsNumber f
       → AreBelow low it.frame.held → stretch.Runs it low E f from mid low (low + n)
       → StandAt code function mid (on position (kills (slots_down low n))) → (answered : Bool) (s : State)
-      → Reaches e code (here [] answered from [] s) (full E (λ v. Gives (is_true v)) s) (λ b. Bool × Tested b)
+      → Reaches e code it.most (here [] answered from [] s) (full E (λ v. Gives (is_true v)) s) (λ b. Bool × Tested b)
       (Leads (mid + n) (λ b tested. Num tested.0 ∷ []))
   test_runs E f from mid low n position is below runs stands answered s =
       full_runs E f (λ v. Gives (is_true v)) Tested [] (λ b tested. Num tested.0 ∷ []) from mid mid low n position below
       runs (λ objects answered1 v s1 has.
       let l : (k : ℤ) × IsLeftAs f v (Num k) = number_left f v is has in
-      reaches_gives e code _ (is_true v) s1 Tested (λ b tested s2. here objects answered1 mid (Num tested.0 ∷ []) s2)
+      reaches_gives e code it.most _ (is_true v) s1 Tested
+      (λ b tested s2. here objects answered1 mid (Num tested.0 ∷ []) s2)
       (l.0, ap is_true l.1.value_is) (ap (λ ops. here objects answered1 mid ops s1) (l.1.on_top []))) stands answered s

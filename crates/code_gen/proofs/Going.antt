@@ -8,9 +8,10 @@ use Rattle.run_defs.specs.Functions.{Environment}
 use Rattle.vm_code.specs.declared.instr.Instr.{Instr}
 use Rattle.vm_code.specs.declared.parts.CodeFunction.{CodeFunction}
 use Rattle.vm_code.specs.Contents.{Contents}
-use Rattle.vm_code.specs.Frames.{Activation, Frame, Place, Ends, after}
+use Rattle.vm_code.specs.Frames.{Activation, Frame, Place, Goes, Ends, Stuck, after}
 use Rattle.vm_code.specs.Machine.{Context, act, fetched, acts, step_in, run}
-use Rattle.code_gen.specs.RunLaw.{Comes, Reaches, Running, StandAt, standing}
+use Rattle.vm_code.proofs.RunTicks.{run_ticks, LeavesAt as AtMost}
+use Rattle.code_gen.specs.RunLaw.{LeavesAt, Comes, Reaches, Running, StandAt, standing}
 
 -- of the value and the state that an evaluation gives
 abbrev pub IfGives : {A : Type 0} → (A → Type 0) → Evaluation A → Type 0
@@ -62,6 +63,21 @@ module _ (e : Environment) (code : Contents) where
   does_fits p (Gives v s) to fits fit d go = record { comes = d.comes; fit = go v d.fit }
   does_fits p (Stops outcome s) to fits fit d go = record { comes = d.comes; fit = tt }
 
+  -- where no more ticks are left
+  as_run : (most : ℕ) (p : Place) → LeavesAt most p → AtMost most p
+  as_run most (Goes frames s) le = le
+  as_run most (Ends outcome s) le = le
+  as_run most Stuck le = tt
+
+  at_once : (most : ℕ) (p : Place) → AtMost most (run e code p 0) → LeavesAt most p
+  at_once most (Goes frames s) le = le
+  at_once most (Ends outcome s) le = le
+  at_once most Stuck le = tt
+
+  pub comes_ticks : (most : ℕ) (p p1 : Place) → Comes e code p p1 → LeavesAt most p → LeavesAt most p1
+  comes_ticks most p p1 c le = let there = c.by 0 in
+      at_once most p1 (subst (λ q. AtMost most q) there.1 (run_ticks e code there.0 most p (as_run most p le)))
+
   -- one thing after another
   pub does_bind : {A B : Type 0} (p : Place) (x : Evaluation A) (next : A → State → Evaluation B)
       (to : A → State → Place) (then : B → State → Place) (fits : A → Type 0) (fit : B → Type 0)
@@ -82,53 +98,64 @@ module _ (e : Environment) (code : Contents) where
 
 -- ---- where what is left says where the value leads
 
-module _ (e : Environment) (code : Contents) where
+module _ (e : Environment) (code : Contents) (most : ℕ) where
   pub reaches_from : {A : Type 0} (p p1 : Place) (x : Evaluation A) (Left : A → Type 0)
-      (to : (v : A) → Left v → State → Place) → Comes e code p p1 → Reaches e code p1 x Left to
-      → Reaches e code p x Left to
-  reaches_from p p1 (Gives v s) Left to c r = let a = r.arrives in record {
-    arrives = (a.0, comes_on e code p p1 (to v a.0 s) c a.1);
+      (to : (v : A) → Left v → State → Place) → Comes e code p p1 → Reaches e code most p1 x Left to
+      → Reaches e code most p x Left to
+  reaches_from p p1 (Gives v s) Left to c r = record {
+    arrives = λ le. let a = r.arrives (comes_ticks e code most p p1 c le) in
+        (a.0, comes_on e code p p1 (to v a.0 s) c a.1);
   }
-  reaches_from p p1 (Stops outcome s) Left to c r =
-      record { arrives = comes_on e code p p1 (Ends outcome s) c r.arrives }
+  reaches_from p p1 (Stops outcome s) Left to c r = record {
+    arrives = λ le. comes_on e code p p1 (Ends outcome s) c (r.arrives (comes_ticks e code most p p1 c le));
+  }
 
   pub reaches_gives : {A : Type 0} (p : Place) (v : A) (s : State) (Left : A → Type 0)
       (to : (v : A) → Left v → State → Place) (left : Left v) → p ≡ to v left s
-      → Reaches e code p (Gives v s) Left to
-  reaches_gives p v s Left to left same = record { arrives = (left, comes_same e code p (to v left s) same) }
+      → Reaches e code most p (Gives v s) Left to
+  reaches_gives p v s Left to left same = record { arrives = λ le. (left, comes_same e code p (to v left s) same) }
+
+  -- where no more ticks are left
+  pub reaches_known : {A : Type 0} (p : Place) (x : Evaluation A) (Left : A → Type 0)
+      (to : (v : A) → Left v → State → Place) → (LeavesAt most p → Reaches e code most p x Left to)
+      → Reaches e code most p x Left to
+  reaches_known p (Gives v s) Left to known = record { arrives = λ le. (known le).arrives le }
+  reaches_known p (Stops outcome s) Left to known = record { arrives = λ le. (known le).arrives le }
 
   -- one thing after another
   pub reaches_bind : {A B : Type 0} (p : Place) (x : Evaluation A) (next : A → State → Evaluation B)
       (Left : A → Type 0) (to : (v : A) → Left v → State → Place) (Last : B → Type 0)
-      (then : (v : B) → Last v → State → Place) → Reaches e code p x Left to
-      → ((v : A) (s : State) (left : Left v) → Reaches e code (to v left s) (next v s) Last then)
-      → Reaches e code p (bind x next) Last then
-  reaches_bind p (Gives v s) next Left to Last then r go = let a = r.arrives in
-      reaches_from p (to v a.0 s) (next v s) Last then a.1 (go v s a.0)
+      (then : (v : B) → Last v → State → Place) → Reaches e code most p x Left to
+      → ((v : A) (s : State) (left : Left v) → Reaches e code most (to v left s) (next v s) Last then)
+      → Reaches e code most p (bind x next) Last then
+  reaches_bind p (Gives v s) next Left to Last then r go = reaches_known p (next v s) Last then
+      (λ le. let a = r.arrives le in reaches_from p (to v a.0 s) (next v s) Last then a.1 (go v s a.0))
   reaches_bind p (Stops outcome s) next Left to Last then r go = record { arrives = r.arrives }
 
   pub does_then : {A B : Type 0} (p : Place) (x : Evaluation A) (next : A → State → Evaluation B)
       (to : A → State → Place) (fits : A → Type 0) (Last : B → Type 0)
       (then : (v : B) → Last v → State → Place) → Does e code p x to fits
-      → ((v : A) (s : State) → fits v → Reaches e code (to v s) (next v s) Last then)
-      → Reaches e code p (bind x next) Last then
+      → ((v : A) (s : State) → fits v → Reaches e code most (to v s) (next v s) Last then)
+      → Reaches e code most p (bind x next) Last then
   does_then p (Gives v s) next to fits Last then d go =
       reaches_from p (to v s) (next v s) Last then d.comes (go v s d.fit)
-  does_then p (Stops outcome s) next to fits Last then d go = record { arrives = d.comes }
+  does_then p (Stops outcome s) next to fits Last then d go = record { arrives = λ le. d.comes }
 
   pub does_reaches : {A : Type 0} (p : Place) (x : Evaluation A) (to : A → State → Place) (fits : A → Type 0)
-      → Does e code p x to fits → Reaches e code p x fits (λ v fit s. to v s)
-  does_reaches p (Gives v s) to fits d = record { arrives = (d.fit, d.comes) }
-  does_reaches p (Stops outcome s) to fits d = record { arrives = d.comes }
+      → Does e code p x to fits → Reaches e code most p x fits (λ v fit s. to v s)
+  does_reaches p (Gives v s) to fits d = record { arrives = λ le. (d.fit, d.comes) }
+  does_reaches p (Stops outcome s) to fits d = record { arrives = λ le. d.comes }
 
   -- and farther from where the value leads
   pub reaches_on : {A : Type 0} (p : Place) (x : Evaluation A) (Left : A → Type 0)
       (to : (v : A) → Left v → State → Place) (Last : A → Type 0) (then : (v : A) → Last v → State → Place)
-      → Reaches e code p x Left to
+      → Reaches e code most p x Left to
       → ((v : A) (s : State) (left : Left v) → (last : Last v) × Comes e code (to v left s) (then v last s))
-      → Reaches e code p x Last then
-  reaches_on p (Gives v s) Left to Last then r go = let a = r.arrives in let b = go v s a.0 in
-      record { arrives = (b.0, comes_on e code p (to v a.0 s) (then v b.0 s) a.1 b.1) }
+      → Reaches e code most p x Last then
+  reaches_on p (Gives v s) Left to Last then r go = record {
+    arrives = λ le. let a = r.arrives le in let b = go v s a.0 in
+        (b.0, comes_on e code p (to v a.0 s) (then v b.0 s) a.1 b.1);
+  }
   reaches_on p (Stops outcome s) Left to Last then r go = record { arrives = r.arrives }
 
 module _ (it : Running) where

@@ -63,7 +63,7 @@ used_long : (used : Bool) → length (used_code used) ≡ used_size used
 used_long true = refl
 used_long false = refl
 
-result_long : (gives : Option Content) (slot : ℕ) → length (result_code gives slot) ≡ result_size gives
+pub result_long : (gives : Option Content) (slot : ℕ) → length (result_code gives slot) ≡ result_size gives
 result_long None slot = refl
 result_long (Some (content.Scalar scalar)) slot = refl
 result_long (Some (content.Whole size)) slot = refl

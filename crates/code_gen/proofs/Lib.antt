@@ -26,6 +26,8 @@ pub mod PlainChoices
 pub mod PlainUpdates
 pub mod PlainNodes
 pub mod ValueObjects
+pub mod CallOperands
+pub mod PlainCalls
 pub mod PlainRuns
 pub mod StatementLengths
 pub mod FullExpressions
@@ -38,6 +40,20 @@ pub mod SwitchCases
 pub mod PlainSwitches
 pub mod PlainStatementRuns
 pub mod Sizes
+pub mod ExpressionKinds
+pub mod StatementKinds
+pub mod CompatibleForms
+pub mod CallTable
+pub mod UnitFunctions
+pub mod UnitEnvironment
+pub mod WantedFunctions
+pub mod CallKinds
+pub mod ParameterRuns
+pub mod EnteredRuns
+pub mod CompletedRuns
+pub mod CalledRuns
+pub mod BodyCalls
+pub mod UnitRuns
 pub mod Trees
 pub mod Runs
 mod PointerRuns

@@ -37,7 +37,7 @@ use Rattle.code_gen.specs.ExpressionCode.{on, code_at, objects_in}
 use Rattle.code_gen.specs.ExpressionCode as code_sizes
 use Rattle.code_gen.specs.Expressions.{Call, value}
 use Rattle.code_gen.specs.Flows.{Flow, Next, Broke, Continued, Returned, branch, after}
-use Rattle.code_gen.specs.RunLaw.{HasKind, pushed, IsPlain, Left, Comes, Reaches, StandAt, Running, stands_at}
+use Rattle.code_gen.specs.RunLaw.{HasKind, pushed, CallsRunIn, Left, Comes, Reaches, StandAt, Running, stands_at}
 use Rattle.code_gen.specs.StatementCode.{Around, kills, slots_down, full_code}
 use Rattle.code_gen.specs.StatementCode.{full_size}
 use Rattle.code_gen.specs.StatementRunLaw.{Inside, jumped, leads}
@@ -93,9 +93,10 @@ module _ (program : Program) (table : List Through) (call : Call) (it : Running)
 
   -- what is done with a statement leads on
   abbrev pub Goes : Place → Evaluation Flow → ℕ → Type 0
-  Goes from x next = Reaches it.environment it.code from x (λ f. Bool) (leads it inside next)
+  Goes from x next = Reaches it.environment it.code it.most from x (λ f. Bool) (leads it inside next)
 
-  pub core_runs : (core : Core) (f : Form) → form_of core ≡ f → CoreTyped names core → IsPlain core → (at : ℕ)
+  pub core_runs : (core : Core) (f : Form) → form_of core ≡ f → CoreTyped names core → CallsRunIn it table call core →
+      (at : ℕ)
       → StandsAt at (code_at program table at around.values core)
       → stretch.Runs it around.values (val core) f at (at + code_sizes.size_in core) around.values
       (around.values + objects_in core)
@@ -118,45 +119,48 @@ module _ (program : Program) (table : List Through) (call : Call) (it : Running)
 
   -- an expression that is evaluated for what it does
   pub effect_runs : (core : Core) (position : Pos) (at : ℕ) (answered : Bool) (s : State)
-      → form_of core ≡ form.Nothing → CoreTyped names core → IsPlain core
+      → form_of core ≡ form.Nothing → CoreTyped names core → CallsRunIn it table call core
       → StandsAt at (full_code program table position at around core)
-      → Reaches e code (here [] answered at [] s) (done program call core it.frame.held s) (λ u. Bool)
+      → Reaches e code it.most (here [] answered at [] s) (done program call core it.frame.held s) (λ u. Bool)
       (λ u answered1 s1. here [] answered1 (at + full_size core) [] s1)
   effect_runs core position at answered s nothing t plain stands =
       let both = deaths core position at stands in
       let mid : ℕ = at + code_sizes.size_in core in
       let same : mid + objects_in core ≡ at + full_size core = omega arith in
-      reaches_on e code _ (done program call core it.frame.held s) (λ u. Bool × Unit {0})
+      reaches_on e code it.most _ (done program call core it.frame.held s) (λ u. Bool × Unit {0})
       (whole.Leads it (mid + objects_in core) (λ u last. [])) (λ u. Bool)
       (λ u answered1 s1. here [] answered1 (at + full_size core) [] s1)
       (whole.full_runs it (val core) form.Nothing (λ v. Gives tt) (λ u. Unit {0}) [] (λ u last. []) at mid mid
       around.values (objects_in core) position inside.named.below
       (core_runs core form.Nothing nothing t plain at both.0)
-      (λ objects answered1 v s1 has. reaches_gives e code _ tt s1 (λ u. Unit {0})
+      (λ objects answered1 v s1 has. reaches_gives e code it.most _ tt s1 (λ u. Unit {0})
       (λ u last s2. here objects answered1 mid [] s2) tt refl)
       both.1 answered s)
       (λ u s1 left. (left.0, comes_same e code _ _ (ap (λ k. here [] left.0 k [] s1) same)))
 
   pub done_runs : (core : Core) (position : Pos) (at : ℕ) (answered : Bool) (s : State) → form_of core ≡ form.Nothing
-      → CoreTyped names core → IsPlain core → StandsAt at (full_code program table position at around core)
+      → CoreTyped names core → CallsRunIn it table call core → StandsAt at
+      (full_code program table position at around core)
       → Goes (here [] answered at [] s) (then_next (done program call core it.frame.held s)) (at + full_size core)
   done_runs core position at answered s nothing t plain stands =
-      reaches_bind e code _ (done program call core it.frame.held s) _ (λ u. Bool)
+      reaches_bind e code it.most _ (done program call core it.frame.held s) _ (λ u. Bool)
       (λ u answered1 s1. here [] answered1 (at + full_size core) [] s1) (λ f. Bool)
       (leads it inside (at + full_size core)) (effect_runs core position at answered s nothing t plain stands)
-      (λ u s1 answered1. reaches_gives e code _ Next s1 (λ f. Bool) (leads it inside (at + full_size core)) answered1
+      (λ u s1 answered1. reaches_gives e code it.most _ Next s1 (λ f. Bool) (leads it inside (at + full_size core))
+      answered1
       refl)
 
   -- a number, as a full expression
   pub number_runs : (core : Core) (position : Pos) (at : ℕ) (answered : Bool) (s : State) → IsNumber (form_of core)
-      → CoreTyped names core → IsPlain core → StandsAt at (full_code program table position at around core)
-      → Reaches e code (here [] answered at [] s) (evaluated program call core it.frame.held Gives s)
+      → CoreTyped names core → CallsRunIn it table call core → StandsAt at
+      (full_code program table position at around core)
+      → Reaches e code it.most (here [] answered at [] s) (evaluated program call core it.frame.held Gives s)
       (λ v. Bool × IsNumeric v) (λ v left s1. here [] left.0 (at + full_size core) (Num left.1.0 ∷ []) s1)
   number_runs core position at answered s is t plain stands =
       let both = deaths core position at stands in
       let mid : ℕ = at + code_sizes.size_in core in
       let same : mid + objects_in core ≡ at + full_size core = omega arith in
-      reaches_on e code _ (evaluated program call core it.frame.held Gives s) (λ v. Bool × IsNumeric v)
+      reaches_on e code it.most _ (evaluated program call core it.frame.held Gives s) (λ v. Bool × IsNumeric v)
       (whole.Leads it (mid + objects_in core) (λ v last. Num last.0 ∷ [])) (λ v. Bool × IsNumeric v)
       (λ v left s1. here [] left.0 (at + full_size core) (Num left.1.0 ∷ []) s1)
       (whole.full_runs it (val core) (form_of core) Gives IsNumeric [] (λ v last. Num last.0 ∷ []) at mid mid
@@ -164,7 +168,7 @@ module _ (program : Program) (table : List Through) (call : Call) (it : Running)
       (core_runs core (form_of core) refl t plain at both.0)
       (λ objects answered1 v s1 has.
       let l : (k : ℤ) × IsLeftAs (form_of core) v (Num k) = number_left (form_of core) v is has in
-      reaches_gives e code _ v s1 IsNumeric (λ w last s2. here objects answered1 mid (Num last.0 ∷ []) s2)
+      reaches_gives e code it.most _ v s1 IsNumeric (λ w last s2. here objects answered1 mid (Num last.0 ∷ []) s2)
       (l.0, l.1.value_is) (ap (λ ops. here objects answered1 mid ops s1) (l.1.on_top [])))
       both.1 answered s)
       (λ v s1 left. (left, comes_same e code _ _ (ap (λ k. here [] left.0 k (Num left.1.0 ∷ []) s1) same)))
@@ -174,30 +178,30 @@ module _ (program : Program) (table : List Through) (call : Call) (it : Running)
       → StandsAt at (on position (kills around.left ++ i.Jump around.behind ∷ []))
       → Goes (here [] answered at [] s) (Gives Broke s) next
   break_runs position at next answered s stands =
-      reaches_from e code _ (jumped it inside.breaks around.behind answered s) (Gives Broke s) (λ f. Bool)
+      reaches_from e code it.most _ (jumped it inside.breaks around.behind answered s) (Gives Broke s) (λ f. Bool)
       (leads it inside next)
       (parts.jump_comes it around.left inside.breaks around.behind at answered position s stands)
-      (reaches_gives e code _ Broke s (λ f. Bool) (leads it inside next) answered refl)
+      (reaches_gives e code it.most _ Broke s (λ f. Bool) (leads it inside next) answered refl)
 
   pub continue_runs : (position : Pos) (at next : ℕ) (answered : Bool) (s : State)
       → StandsAt at (on position (kills around.left_again ++ i.Jump around.again ∷ []))
       → Goes (here [] answered at [] s) (Gives Continued s) next
   continue_runs position at next answered s stands =
-      reaches_from e code _ (jumped it inside.continues around.again answered s) (Gives Continued s) (λ f. Bool)
+      reaches_from e code it.most _ (jumped it inside.continues around.again answered s) (Gives Continued s) (λ f. Bool)
       (leads it inside next)
       (parts.jump_comes it around.left_again inside.continues around.again at answered position s stands)
-      (reaches_gives e code _ Continued s (λ f. Bool) (leads it inside next) answered refl)
+      (reaches_gives e code it.most _ Continued s (λ f. Bool) (leads it inside next) answered refl)
 
   pub return_runs : (position : Pos) (at next : ℕ) (answered : Bool) (s : State)
       → StandsAt at (on position (i.Leave ∷ []))
       → Goes (here [] answered at [] s) (Gives (Returned None) s) next
   return_runs position at next answered s stands =
-      reaches_from e code _ _ (Gives (Returned None) s) (λ f. Bool) (leads it inside next)
+      reaches_from e code it.most _ _ (Gives (Returned None) s) (λ f. Bool) (leads it inside next)
       (one_step (stretch.beside it [] answered) at [] s i.Leave position stands.0)
-      (reaches_gives e code _ (Returned None) s (λ f. Bool) (leads it inside next) answered refl)
+      (reaches_gives e code it.most _ (Returned None) s (λ f. Bool) (leads it inside next) answered refl)
 
   pub return_value_runs : (core : Core) (position : Pos) (at next : ℕ) (answered : Bool) (s : State)
-      → IsReturned flow.gives (form_of core) → CoreTyped names core → IsPlain core
+      → IsReturned flow.gives (form_of core) → CoreTyped names core → CallsRunIn it table call core
       → StandsAt at (code_at program table at around.values core ++ on position (i.Give ∷ []))
       → Goes (here [] answered at [] s) (evaluated program call core it.frame.held (λ v. Gives (Returned (Some v))) s)
       next
@@ -211,7 +215,7 @@ module _ (program : Program) (table : List Through) (call : Call) (it : Running)
       let forms : (given_form flow.gives ≡ form_of core) × IsLeft (form_of core) =
       returned_form flow.gives (form_of core) is in
       let own : it.function.form ≡ form_of core = inside.form_is ∙ forms.0 in
-      reaches_bind e code _ (val core [] s) _ (Left (form_of core) around.values high)
+      reaches_bind e code it.most _ (val core [] s) _ (Left (form_of core) around.values high)
       (stretch.Leads it around.values (form_of core) high (at + l) []) (λ f. Bool) (leads it inside next)
       (core_runs core (form_of core) refl t plain at
       (stand_front it.code it.function at a (on position (i.Give ∷ [])) stands) []
@@ -224,13 +228,13 @@ module _ (program : Program) (table : List Through) (call : Call) (it : Running)
       ≡ all_died (numbers it.frame.held) (all_died x.made s1) =
       parts.died_both left.now.objects it.frame.held s1
       ∙ ap (λ made. all_died (numbers it.frame.held) (all_died made s1)) left.now.same in
-      reaches_from e code _ (gone x.value []) (Gives (Returned (Some x.value)) (all_died x.made s1)) (λ f. Bool)
+      reaches_from e code it.most _ (gone x.value []) (Gives (Returned (Some x.value)) (all_died x.made s1)) (λ f. Bool)
       (leads it inside next)
       (comes_on e code _ _ _
       (one_step other (at + l) (pushed (form_of core) x.value []) s1 i.Give position give.0)
       (comes_same e code _ _ (ap (λ f. on_form f (pushed (form_of core) x.value []) gone) own
       ∙ left_on_form (form_of core) x.value forms.1 left.kind gone)))
-      (reaches_gives e code _ (Returned (Some x.value)) (all_died x.made s1) (λ f. Bool) (leads it inside next)
+      (reaches_gives e code it.most _ (Returned (Some x.value)) (all_died x.made s1) (λ f. Bool) (leads it inside next)
       left.now.answered
       (ap (λ s2. returned e code (left_by it.function.form it.frame.result x.value) x.value it.rest (call_left s2))
       dead)))
@@ -239,7 +243,8 @@ module _ (program : Program) (table : List Through) (call : Call) (it : Running)
   pub goes_on : (from : Place) (x : Evaluation Flow) (next then : ℕ) → Goes from x next
       → ((answered : Bool) (s : State) → Comes e code (here [] answered next [] s) (here [] answered then [] s))
       → Goes from x then
-  goes_on from x next then goes on_next = reaches_on e code from x (λ f. Bool) (leads it inside next) (λ f. Bool)
+  goes_on from x next then goes on_next = reaches_on e code it.most from x (λ f. Bool) (leads it inside next)
+      (λ f. Bool)
       (leads it inside then) goes (λ f s answered. by_flow f s answered)
     where
       by_flow : (f : Flow) (s : State) (answered : Bool) → (b : Bool) × Comes e code (leads it inside next f answered s)
@@ -252,7 +257,8 @@ module _ (program : Program) (table : List Through) (call : Call) (it : Running)
 
   -- a test, behind which no more ticks are left, and then one of two statements
   pub if_runs : (test : Core) (position : Pos) (at to next : ℕ) (answered : Bool) (s : State)
-      (first second : State → Evaluation Flow) → IsNumber (form_of test) → CoreTyped names test → IsPlain test
+      (first second : State → Evaluation Flow) → IsNumber (form_of test) → CoreTyped names test → CallsRunIn it table
+      call test
       → StandsAt at (full_code program table position at around test)
       → StandsAt (at + full_size test) (on position (i.IfZero to ∷ []))
       → ((answered1 : Bool) (s1 : State) → s1.ticks ≤ s.ticks
@@ -264,7 +270,7 @@ module _ (program : Program) (table : List Through) (call : Call) (it : Running)
       let both = deaths test position at stands in
       let mid : ℕ = at + code_sizes.size_in test in
       let same : mid + objects_in test ≡ at + full_size test = omega arith in
-      reaches_within e code s.ticks (here [] answered at [] s) (tested program call test it.frame.held s) _
+      reaches_within e code it.most s.ticks (here [] answered at [] s) (tested program call test it.frame.held s) _
       (λ b. Bool × whole.Tested it b)
       (whole.Leads it (mid + objects_in test) (λ b last. Num last.0 ∷ [])) (λ f. Bool) (leads it inside next)
       (omega arith)
@@ -275,7 +281,8 @@ module _ (program : Program) (table : List Through) (call : Call) (it : Running)
       (sym left.1.1)
       (subst (λ k. Goes (here [] left.0 k (Num left.1.0 ∷ []) s1) (branch (not (is_zero left.1.0)) first second s1)
       next) (sym same)
-      (reaches_from e code _ _ (branch (not (is_zero left.1.0)) first second s1) (λ f. Bool) (leads it inside next)
+      (reaches_from e code it.most _ _ (branch (not (is_zero left.1.0)) first second s1) (λ f. Bool)
+      (leads it inside next)
       (one_step (stretch.beside it [] left.0) (at + full_size test) (Num left.1.0 ∷ []) s1 (i.IfZero to) position
       fork.0)
       (by_zero left.0 s1 (is_zero left.1.0) (runs_first left.0 s1 fewer) (runs_second left.0 s1)))))
@@ -304,9 +311,9 @@ module _ (program : Program) (table : List Through) (call : Call) (it : Running)
           let h : (h : Held) × (held_in slot it.frame.held ≡ Some h) × (h.size ≡ size) =
           inside.named.named slot size is in
           let fits : nat_le (byte + len) h.0.size ≡ true = le-leb _ _ (omega (arith, h.2, within)) in
-          reaches_from e code _ _ _ (λ f. Bool) (leads it inside (at + 1))
+          reaches_from e code it.most _ _ _ (λ f. Bool) (leads it inside (at + 1))
           (one_step (stretch.beside it [] answered) at [] s (i.Seal slot byte len) position stands.0)
-          (reaches_gives e code _ Next _ (λ f. Bool) (leads it inside (at + 1)) answered
+          (reaches_gives e code it.most _ Next _ (λ f. Bool) (leads it inside (at + 1)) answered
           (rw h.1 (rw fits refl)))
 
   -- what stands behind a statement
@@ -315,11 +322,11 @@ module _ (program : Program) (table : List Through) (call : Call) (it : Running)
       → Goes (leads it inside mid f answered s) (after f go s) next
   after_runs Next go mid next answered s runs = runs answered s
   after_runs Broke go mid next answered s runs =
-      reaches_gives e code _ Broke s (λ f. Bool) (leads it inside next) answered refl
+      reaches_gives e code it.most _ Broke s (λ f. Bool) (leads it inside next) answered refl
   after_runs Continued go mid next answered s runs =
-      reaches_gives e code _ Continued s (λ f. Bool) (leads it inside next) answered refl
+      reaches_gives e code it.most _ Continued s (λ f. Bool) (leads it inside next) answered refl
   after_runs (Returned v) go mid next answered s runs =
-      reaches_gives e code _ (Returned v) s (λ f. Bool) (leads it inside next) answered refl
+      reaches_gives e code it.most _ (Returned v) s (λ f. Bool) (leads it inside next) answered refl
 
   pub from_there : (x : Evaluation Flow) (at at1 next : ℕ) (answered : Bool) (s : State) → at ≡ at1
       → Goes (here [] answered at [] s) x next → Goes (here [] answered at1 [] s) x next

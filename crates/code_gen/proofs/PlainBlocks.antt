@@ -108,29 +108,30 @@ module _ (program : Program) (table : List Through) (call : Call) where
       → StandAt it.code it.function at (on position (makes locals))
       → StandAt it.code it.function (at + length locals + size) (on position (kills_of locals))
       → ((made : List Held) (s1 : State) (are : parts.AreMade it locals [] names around.values made)
-      → Reaches it.environment it.code (stands_at it made answered (at + length locals) operands s1)
+      → Reaches it.environment it.code it.most (stands_at it made answered (at + length locals) operands s1)
       (items (made ++ it.frame.held) s1) (λ f. Bool)
       (leads (block_of it names flow around inside locals made answered are fresh)
       (inside_block it names flow around inside locals made answered are fresh) (at + length locals + size)))
-      → Reaches it.environment it.code (stands_at it [] answered at operands s) (in_block locals items it.frame.held s)
+      → Reaches it.environment it.code it.most (stands_at it [] answered at operands s)
+      (in_block locals items it.frame.held s)
       (λ f. Bool) (leads it inside (at + length locals + size + length locals))
   block_runs it names flow around inside locals items position at size answered operands s fresh stands dead runs =
       let next : ℕ = at + length locals + size in
-      does_then it.environment it.code _ (locals_made locals [] s) _
+      does_then it.environment it.code it.most _ (locals_made locals [] s) _
       (λ made s1. stands_at it made answered (at + length locals) operands s1)
       (parts.AreMade it locals [] names around.values) (λ f. Bool)
       (leads it inside (next + length locals))
       (parts.makes_do it locals names around.values flow.slots at position [] answered operands s inside.above fresh
       inside.named stands)
       (λ made s1 are.
-      reaches_bind it.environment it.code _ (items (made ++ it.frame.held) s1) _ (λ f. Bool)
+      reaches_bind it.environment it.code it.most _ (items (made ++ it.frame.held) s1) _ (λ f. Bool)
       (leads (block_of it names flow around inside locals made answered are fresh)
       (inside_block it names flow around inside locals made answered are fresh) next) (λ f. Bool)
       (leads it inside (next + length locals)) (runs made s1 are)
       (λ f s2 answered1.
-      reaches_from it.environment it.code _
+      reaches_from it.environment it.code it.most _
       (leads it inside (next + length locals) f answered1 (all_died (numbers made) s2))
       (Gives f (all_died (numbers made) s2)) (λ f. Bool) (leads it inside (next + length locals))
       (block_left it names flow around inside locals made answered are fresh next position dead f answered1 s2)
-      (reaches_gives it.environment it.code _ f (all_died (numbers made) s2) (λ f. Bool)
+      (reaches_gives it.environment it.code it.most _ f (all_died (numbers made) s2) (λ f. Bool)
       (leads it inside (next + length locals)) answered1 refl)))

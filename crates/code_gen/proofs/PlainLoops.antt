@@ -21,12 +21,11 @@ use Rattle.vm_code.specs.declared.instr.Instr.TheVariants as i
 use Rattle.vm_code.specs.Contents.{Contents}
 use Rattle.vm_code.specs.Frames.{Place, after}
 use Rattle.vm_code.specs.Slots.{Held}
-use Rattle.vm_code.proofs.RunTicks.{LeavesAt}
 use Rattle.code_gen.specs.CalledTypes.{Through}
 use Rattle.code_gen.specs.ExpressionCode.{on}
 use Rattle.code_gen.specs.Expressions.{Call}
 use Rattle.code_gen.specs.Flows.{Flow, Next, Broke, Continued, Returned, branch, after_turn, turns, do_turns}
-use Rattle.code_gen.specs.RunLaw.{IsPlain, Comes, Reaches, StandAt, Running, stands_at}
+use Rattle.code_gen.specs.RunLaw.{LeavesAt, CallsRunIn, Comes, Reaches, StandAt, Running, stands_at}
 use Rattle.code_gen.specs.StatementCode.{Around, in_loop, full_size, full_code, statement_size, action_size}
 use Rattle.code_gen.specs.StatementCode.{statement_code, action_code}
 use Rattle.code_gen.specs.StatementRunLaw.{OnTop, Inside, leads}
@@ -57,7 +56,7 @@ module _ (program : Program) (table : List Through) (call : Call) (it : Running)
   here answered at s = stands_at it [] answered at [] s
 
   abbrev Goes : Place → Evaluation Flow → ℕ → Type 0
-  Goes from x next = Reaches it.environment it.code from x (λ f. Bool) (leads it inside next)
+  Goes from x next = Reaches it.environment it.code it.most from x (λ f. Bool) (leads it inside next)
 
   -- the body of a loop
   abbrev pub inside_loop : (end again : ℕ) → Inside it names (typed.in_loop flow) (in_loop end again around)
@@ -72,7 +71,7 @@ module _ (program : Program) (table : List Through) (call : Call) (it : Running)
 
   abbrev pub Turns : (end again from : ℕ) → (State → Evaluation Flow) → (next : ℕ) → Type 0
   Turns end again from body next = (answered : Bool) (s : State)
-      → Reaches e code (here answered from s) (body s) (λ f. Bool) (leads it (inside_loop end again) next)
+      → Reaches e code it.most (here answered from s) (body s) (λ f. Bool) (leads it (inside_loop end again) next)
 
   -- ---- a tick
 
@@ -80,10 +79,11 @@ module _ (program : Program) (table : List Through) (call : Call) (it : Running)
       → Comes e code (here answered at s) (after (ticked_at n s) (λ u s1. here answered (at + 1) s1))
       → ((s1 : State) → s1.ticks ≤ most → Goes (here answered (at + 1) s1) (go s1) next)
       → Goes (here answered at s) (bind (ticked_at n s) (λ u s1. go s1)) next
-  ticked_runs zero most at next answered s go few comes runs = record { arrives = comes }
+  ticked_runs zero most at next answered s go few comes runs = record { arrives = λ le. comes }
   ticked_runs (suc n) most at next answered s go few comes runs =
       let s1 : State = record s { ticks = n } in
-      reaches_from e code (here answered at s) (here answered (at + 1) s1) (go s1) (λ f. Bool) (leads it inside next)
+      reaches_from e code it.most (here answered at s) (here answered (at + 1) s1) (go s1) (λ f. Bool)
+      (leads it inside next)
       comes (runs s1 (omega (arith, few)))
 
   -- each turn takes a tick
@@ -98,7 +98,7 @@ module _ (program : Program) (table : List Through) (call : Call) (it : Running)
   unticked_runs : (n at next : ℕ) (answered : Bool) (s : State) → n ≤ 0
       → Comes e code (here answered at s) (after (ticked_at n s) (λ u s1. here answered (at + 1) s1))
       → Goes (here answered at s) (Stops OutOfTicks s) next
-  unticked_runs zero at next answered s none comes = record { arrives = comes }
+  unticked_runs zero at next answered s none comes = record { arrives = λ le. comes }
   unticked_runs (suc n) at next answered s none comes = absurd (let no : ⊥ = omega (arith, none) in no)
 
   -- no turn begins where none is left
@@ -117,9 +117,9 @@ module _ (program : Program) (table : List Through) (call : Call) (it : Running)
   turn_left end again most Next answered s go few runs = runs answered s few
   turn_left end again most Continued answered s go few runs = runs answered s few
   turn_left end again most Broke answered s go few runs =
-      reaches_gives e code _ Next s (λ f. Bool) (leads it inside end) answered refl
+      reaches_gives e code it.most _ Next s (λ f. Bool) (leads it inside end) answered refl
   turn_left end again most (Returned v) answered s go few runs =
-      reaches_gives e code _ (Returned v) s (λ f. Bool) (leads it inside end) answered refl
+      reaches_gives e code it.most _ (Returned v) s (λ f. Bool) (leads it inside end) answered refl
 
   turn_runs : (end again from most : ℕ) (body : State → Evaluation Flow) (go : State → Evaluation Flow)
       → Turns end again from body again
@@ -127,20 +127,20 @@ module _ (program : Program) (table : List Through) (call : Call) (it : Running)
       → (answered : Bool) (s : State) → s.ticks ≤ most
       → Goes (here answered from s) (bind (body s) (λ f. after_turn f go)) end
   turn_runs end again from most body go turns_once runs answered s few =
-      reaches_within e code most (here answered from s) (body s) _ (λ f. Bool)
+      reaches_within e code it.most most (here answered from s) (body s) _ (λ f. Bool)
       (leads it (inside_loop end again) again) (λ f. Bool) (leads it inside end) few (turns_once answered s)
       (λ f s1 answered1 few1. turn_left end again most f answered1 s1 go few1 runs)
 
   -- ---- the turns
 
   module _ (test : Core) (position : Pos) (at again end : ℕ) (body : State → Evaluation Flow)
-      (is : IsNumber (form_of test)) (t : CoreTyped names test) (plain : IsPlain test) where
+      (is : IsNumber (form_of test)) (t : CoreTyped names test) (plain : CallsRunIn it table call test) where
     -- of a loop with its test first
     pub turns_run : (step : State → Evaluation (Unit {0})) → StandsAt at (on position (i.Tick ∷ []))
         → StandsAt (at + 1) (full_code program table position (at + 1) around test)
         → StandsAt (at + 1 + full_size test) (on position (i.IfZero end ∷ []))
         → Turns end again (at + 1 + full_size test + 1) body again
-        → ((answered : Bool) (s : State) → Reaches e code (here answered again s) (step s) (λ u. Bool)
+        → ((answered : Bool) (s : State) → Reaches e code it.most (here answered again s) (step s) (λ u. Bool)
         (λ u answered1 s1. here answered1 at s1))
         → (most : ℕ) (answered : Bool) (s : State) → s.ticks ≤ most
         → Goes (here answered at s) (turns most (tested program call test it.frame.held) body step s) end
@@ -155,11 +155,11 @@ module _ (program : Program) (table : List Through) (call : Call) (it : Running)
         (λ s1 few1. actions.if_runs program table call it names flow around inside test position (at + 1) end end
         answered s1 (λ s2. bind (body s2) (λ f. after_turn f go)) (Gives Next) is t plain tests fork
         (λ answered2 s2 few2. turn_runs end again (at + 1 + full_size test + 1) most body go turns_once
-        (λ answered3 s3 few3. reaches_within e code most (here answered3 again s3) (step s3) _ (λ u. Bool)
+        (λ answered3 s3 few3. reaches_within e code it.most most (here answered3 again s3) (step s3) _ (λ u. Bool)
         (λ u answered4 s4. here answered4 at s4) (λ f. Bool) (leads it inside end) few3 (steps answered3 s3)
         (λ u s4 answered4 few4. turns_run step tick tests fork turns_once steps most answered4 s4 few4))
         answered2 s2 (omega (arith, few1, few2)))
-        (λ answered2 s2. reaches_gives e code _ Next s2 (λ f. Bool) (leads it inside end) answered2 refl))
+        (λ answered2 s2. reaches_gives e code it.most _ Next s2 (λ f. Bool) (leads it inside end) answered2 refl))
 
     -- of a loop with its body first
     pub do_turns_run : StandsAt at (on position (i.Tick ∷ []))
@@ -178,22 +178,22 @@ module _ (program : Program) (table : List Through) (call : Call) (it : Running)
         (λ s1 few1. turn_runs end again (at + 1) most body go turns_once
         (λ answered2 s2 few2. actions.if_runs program table call it names flow around inside test position again end end
         answered2 s2 next_turn (Gives Next) is t plain tests (forks.0, tt)
-        (λ answered3 s3 few3. reaches_from e code _ (here answered3 at s3) (next_turn s3) (λ f. Bool)
+        (λ answered3 s3 few3. reaches_from e code it.most _ (here answered3 at s3) (next_turn s3) (λ f. Bool)
         (leads it inside end)
         (one_step (stretch.beside it [] answered3) (again + full_size test + 1) [] s3 (i.Jump at) position forks.1.0)
         (do_turns_run tick turns_once tests forks most answered3 s3 (omega (arith, few2, few3))))
-        (λ answered3 s3. reaches_gives e code _ Next s3 (λ f. Bool) (leads it inside end) answered3 refl))
+        (λ answered3 s3. reaches_gives e code it.most _ Next s3 (λ f. Bool) (leads it inside end) answered3 refl))
         answered s1 few1)
 
   -- the step of a `for`, and the jump to its next turn
   step_runs : (step : Core) (position : Pos) (at again : ℕ) (answered : Bool) (s : State)
-      → form_of step ≡ form.Nothing → CoreTyped names step → IsPlain step
+      → form_of step ≡ form.Nothing → CoreTyped names step → CallsRunIn it table call step
       → StandsAt again (full_code program table position again around step)
       → StandsAt (again + full_size step) (on position (i.Jump at ∷ []))
-      → Reaches e code (here answered again s) (done program call step it.frame.held s) (λ u. Bool)
+      → Reaches e code it.most (here answered again s) (done program call step it.frame.held s) (λ u. Bool)
       (λ u answered1 s1. here answered1 at s1)
   step_runs step position at again answered s nothing t plain stands jump =
-      reaches_on e code _ (done program call step it.frame.held s) (λ u. Bool)
+      reaches_on e code it.most _ (done program call step it.frame.held s) (λ u. Bool)
       (λ u answered1 s1. here answered1 (again + full_size step) s1) (λ u. Bool)
       (λ u answered1 s1. here answered1 at s1)
       (actions.effect_runs program table call it names flow around inside step position again answered s nothing t plain
@@ -223,7 +223,7 @@ module _ (program : Program) (table : List Through) (call : Call) (it : Running)
       → Turns end again at (body_done body) (at + statement_size 0 0 body)
 
   pub while_runs : (test : Core) (body : Statement) (position : Pos) (at text : ℕ) → IsNumber (form_of test)
-      → CoreTyped names test → IsPlain test → Action position (unit.While test body) at text
+      → CoreTyped names test → CallsRunIn it table call test → Action position (unit.While test body) at text
       → BodyRuns text body → (answered : Bool) (s : State) → Does position (unit.While test body) at answered s
   while_runs test body position at text is t plain stands runs answered s =
       let l : ℕ = full_size test in
@@ -247,11 +247,12 @@ module _ (program : Program) (table : List Through) (call : Call) (it : Running)
       (λ answered2 s2. one_step (stretch.beside it [] answered2) (from + m) [] s2 (i.Jump at) position jump.0) in
       turns_run test position at at end (body_done body) is t plain no_step (stands.0, tt) pieces.first pieces.second
       (subst (λ k. Turns end at k (body_done body) at) start_again once)
-      (λ answered1 s1. reaches_gives e code _ tt s1 (λ u. Bool) (λ u answered2 s2. here answered2 at s2) answered1 refl)
+      (λ answered1 s1. reaches_gives e code it.most _ tt s1 (λ u. Bool) (λ u answered2 s2. here answered2 at s2)
+      answered1 refl)
       s.ticks answered s (omega arith)
 
   pub do_runs : (body : Statement) (test : Core) (position : Pos) (at text : ℕ) → IsNumber (form_of test)
-      → CoreTyped names test → IsPlain test → Action position (unit.Do body test) at text
+      → CoreTyped names test → CallsRunIn it table call test → Action position (unit.Do body test) at text
       → BodyRuns text body → (answered : Bool) (s : State) → Does position (unit.Do body test) at answered s
   do_runs body test position at text is t plain stands runs answered s =
       let l : ℕ = full_size test in
@@ -281,7 +282,8 @@ module _ (program : Program) (table : List Through) (call : Call) (it : Running)
       answered s (omega arith))
 
   pub for_runs : (test step : Core) (body : Statement) (position : Pos) (at text : ℕ) → IsNumber (form_of test)
-      → CoreTyped names test → IsPlain test → form_of step ≡ form.Nothing → CoreTyped names step → IsPlain step
+      → CoreTyped names test → CallsRunIn it table call test → form_of step ≡ form.Nothing → CoreTyped names step →
+      CallsRunIn it table call step
       → Action position (unit.For test step body) at text
       → BodyRuns text body → (answered : Bool) (s : State) → Does position (unit.For test step body) at answered s
   for_runs test step body position at text is t plain nothing t_step plain_step stands runs answered s =

@@ -1,6 +1,5 @@
--- The machine does what expressions without calls mean.
-use Rattle.std.proofs.Common.{◌≡◌, ℕ, ◌+◌, ◌≤◌, true, false, List, [], ◌∷◌, ◌++◌, refl, sym}
-use Rattle.std.proofs.Common.{subst, arith, length}
+-- The machine does what expressions mean, where their calls run as they are meant.
+use Rattle.std.proofs.Common.{◌≡◌, ℕ, ◌+◌, ◌≤◌, true, false, List, [], ◌∷◌, ◌++◌, refl, sym, subst, arith, length}
 use Rattle.std.proofs.lemmas.List.{length-append}
 use Rattle.std.specs.Prelude.{not}
 use Rattle.acc_num.specs.declared.kind.IntKind.TheVariants.{I32, I64}
@@ -10,13 +9,13 @@ use Rattle.object_store.specs.declared.pointer.Pointer.{Pointer}
 use Rattle.c_types.specs.Compatible.{same_bool}
 use Rattle.c_core.specs.declared.form.Form.{Form}
 use Rattle.c_core.specs.declared.form.Form.TheVariants as form
-use Rattle.c_core.specs.Forms.{form_of, node_form, scalar_form}
+use Rattle.c_core.specs.Forms.{form_of, node_form, scalar_form, changed_form}
 use Rattle.c_core.specs.Named.{Names}
 use Rattle.c_core.specs.Operations.{operator_outcome, negation, complement, compares, truth, is_shift}
-use Rattle.c_core.specs.Tree.{Core, At, Node}
+use Rattle.c_core.specs.Tree.{Core, At, Node, Cores, NoCore, MoreCores}
 use Rattle.c_core.specs.Tree as tree
 use Rattle.c_core.specs.TreeUnit.{Program}
-use Rattle.c_core.specs.Typed.{CoreTyped, NodeTyped}
+use Rattle.c_core.specs.Typed.{CoreTyped, CoresTyped, NodeTyped}
 use Rattle.c_core.specs.Types.{IsNumber}
 use Rattle.lib_defs.specs.declared.value.Value.TheVariants.{Num, Ptr, Nothing}
 use Rattle.lib_defs.specs.Columns.{is_null}
@@ -36,26 +35,25 @@ use Rattle.lib_defs.specs.Reply.{null}
 use Rattle.vm_code.specs.CodeFunctions.{function_pointer}
 use Rattle.code_gen.specs.Evaluating.{Evaluates}
 use Rattle.code_gen.specs.ExpressionCode.{on, code_at, code_of, size_of, same_code, same_size, objects_in, objects_of}
-use Rattle.code_gen.specs.ExpressionCode.{object_code}
-use Rattle.code_gen.specs.ExpressionCode.{truth_code, false_code, true_code}
+use Rattle.code_gen.specs.ExpressionCode.{object_code, codes_at, size_among, objects_among}
+use Rattle.code_gen.specs.ExpressionCode.{truth_code, false_code, true_code, update_code, postfix_code}
 use Rattle.code_gen.specs.ExpressionCode as code_sizes
 use Rattle.code_gen.specs.Expressions.{Call, value, node_value}
 use Rattle.code_gen.specs.Updates.{designated, kind_of_reach}
-use Rattle.code_gen.specs.RunLaw.{EachPlainExpressionRuns, IsPlain, IsPlainNode, HasKind, StandAt, Running}
-use Rattle.code_gen.specs.RunLaw.{IsAround}
+use Rattle.code_gen.specs.RunLaw.{EachExpressionRuns, CallsOfNodeRun, CallsAmongRun, CallsRunIn, HasKind}
+use Rattle.code_gen.specs.RunLaw.{StandAt, Running, IsAround, AreLeft}
 use Rattle.code_gen.proofs.Going.{stand_front, stand_back}
 use Rattle.code_gen.proofs.Lengths.{code_long}
 use Rattle.code_gen.proofs.PlainParts as part
 use Rattle.code_gen.proofs.PlainStretches as stretch
 use Rattle.code_gen.proofs.PlainParts.{IsPointer, a_pointer, a_place, a_number, IsLeftAs, number_left, pointer_left}
 use Rattle.code_gen.proofs.PlainActs as acts
+use Rattle.code_gen.proofs.PlainCalls as calls
 use Rattle.code_gen.proofs.PlainChoices as choices
 use Rattle.code_gen.proofs.PlainNodes as nodes
 use Rattle.code_gen.proofs.PlainPieces as pieces_of
 use Rattle.code_gen.proofs.PlainUpdates as updates
 use Rattle.code_gen.proofs.ValueObjects as values
-use Rattle.code_gen.specs.ExpressionCode.{update_code, postfix_code}
-use Rattle.c_core.specs.Forms.{changed_form}
 
 module _ (it : Running) (low : ℕ) (program : Program) (table : List Through) (call : Call) (names : Names)
     (around : IsAround names low it.frame.held) where
@@ -84,14 +82,15 @@ module _ (it : Running) (low : ℕ) (program : Program) (table : List Through) (
   size_in core = code_sizes.size_in core
 
   mutual
-    value_runs : (core : Core) → CoreTyped names core → IsPlain core → (at slot : ℕ) → low ≤ slot
+    value_runs : (core : Core) → CoreTyped names core → CallsRunIn it table call core → (at slot : ℕ) → low ≤ slot
         → StandsAt at (code_at program table at slot core)
         → Runs (val core) (form_of core) at (at + size_in core) slot (slot + objects_in core)
     value_runs (At of position node) t plain at slot above stands =
         node_runs position node t.1 plain at slot above stands
 
-    node_runs : (position : Pos) (node : Node) → NodeTyped names node → IsPlainNode node → (at slot : ℕ)
-        → low ≤ slot → StandsAt at (code_of program table at slot position node)
+    node_runs : (position : Pos) (node : Node) → NodeTyped names node
+        → CallsOfNodeRun it.environment it.code it.most it.rest table call node → (at slot : ℕ) → low ≤ slot
+        → StandsAt at (code_of program table at slot position node)
         → Runs (node_value program call frame.held position node) (node_form node) at (at + size_of node) slot
         (slot + objects_of node)
     node_runs position (tree.Number kind n) t plain at slot above stands =
@@ -346,7 +345,10 @@ module _ (it : Running) (low : ℕ) (program : Program) (table : List Through) (
         )) stands))
         pieces.second pieces.last)
     node_runs position (tree.Call used gives operation operands) t plain at slot above stands =
-        absurd plain
+        calls.call_runs it low program table call used gives operation operands position at slot above t.0 t.5 plain.2
+        stands (value_runs operation t.1 plain.0 at slot above)
+        (values_run operands t.2 plain.2.left plain.1 (at + size_in operation) (slot + objects_in operation)
+        (omega (arith, above)))
     node_runs position (tree.ValueObject size operand) t plain at slot above stands =
         values.value_object_runs it low program table call operand size at slot position above stands t.1 (value_runs
         operand t.2 plain at slot above)
@@ -355,11 +357,9 @@ module _ (it : Running) (low : ℕ) (program : Program) (table : List Through) (
         number))) _ (updates.update_ends it by at (size_in place) (size_in number)) (nodes.more_nodes it low program
         table call place number (updates.gives_new it by position) (changed_form by) (updates.end_of_update it by (at
         + (size_in place + size_in number))) (update_code by) at slot position stands (value_runs place t.1 plain.0 at
-        slot above) (value_runs number t.3 plain.1 (at + size_in place) (slot + objects_in place) (omega (
-          arith,
-          above,
-        ))) (λ after objects answered operands v w s has_v has_w. updates.update_acts (stretch.beside it objects
-        answered) by (form_of place) (form_of number) (at + (size_in place + size_in number)) position (a_place
+        slot above) (value_runs number t.3 plain.1 (at + size_in place) (slot + objects_in place)
+        (omega (arith, above))) (λ after objects answered operands v w s has_v has_w. updates.update_acts
+        (stretch.beside it objects answered) by (form_of place) (form_of number) (at + (size_in place + size_in number)) position (a_place
         (form_of place) t.0) (updates.fits_number it by (form_of number) t.2) operands v w s has_v has_w after))
     node_runs position (tree.Postfix by place) t plain at slot above stands =
         stretch.to_place it low _ (changed_form by) at (updates.end_of_postfix it by (at + size_in place)) _
@@ -370,7 +370,30 @@ module _ (it : Running) (low : ℕ) (program : Program) (table : List Through) (
         updates.postfix_acts (stretch.beside it objects answered) by (form_of place) (at + size_in place) position
         (a_place (form_of place) t.1) operands v s has after))
 
+    -- arguments
+    values_run : (cores : Cores) → CoresTyped names cores → AreLeft cores
+        → CallsAmongRun it.environment it.code it.most it.rest table call cores → (at slot : ℕ) → low ≤ slot
+        → StandsAt at (codes_at program table at slot cores)
+        → calls.ValuesRun it low program table call cores at (at + size_among cores) slot (slot + objects_among cores)
+    values_run NoCore t left plain at slot above stands = calls.none_run it low program table call at slot
+    values_run (MoreCores first rest) t left plain at slot above stands =
+        let mid : ℕ = at + size_in first in
+        let between : ℕ = slot + objects_in first in
+        let a : List (Instr × Pos) = code_at program table at slot first in
+        let b : List (Instr × Pos) = codes_at program table mid between rest in
+        let there : mid + size_among rest ≡ at + (size_in first + size_among rest) = omega arith in
+        let last : between + objects_among rest ≡ slot + (objects_in first + objects_among rest) = omega arith in
+        subst (λ k. calls.ValuesRun it low program table call (MoreCores first rest) at k slot
+        (slot + (objects_in first + objects_among rest))) there
+        (subst (λ k. calls.ValuesRun it low program table call (MoreCores first rest) at (mid + size_among rest) slot k)
+        last
+        (calls.more_run it low program table call first rest at mid (mid + size_among rest) slot between
+        (between + objects_among rest) left.0
+        (value_runs first t.0 plain.0 at slot above (stand_front code function at a b stands))
+        (values_run rest t.1 left.1 plain.1 mid between (omega (arith, above))
+        (stand_back code function at (size_in first) a b (code_long program table at slot first) stands))))
+
 -- as the statement has it
-pub plain_runs : EachPlainExpressionRuns
+pub plain_runs : EachExpressionRuns
 plain_runs it program table call names low around core t plain at slot above stands =
     value_runs it low program table call names around core t plain at slot above stands

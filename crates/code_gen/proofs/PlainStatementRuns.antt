@@ -1,4 +1,4 @@
--- The machine does what statements without calls mean.
+-- The machine does what statements mean, where their calls run as they are meant.
 use Rattle.std.proofs.Common.{◌≡◌, ◌∙◌, ℕ, zero, suc, ◌+◌, Bool, List, [], ◌∷◌, ◌++◌, refl, ap, sym, subst, arith}
 use Rattle.std.proofs.Common.{length}
 use Rattle.std.proofs.lemmas.List.{length-append}
@@ -22,8 +22,9 @@ use Rattle.code_gen.specs.StatementCode.{full_code, item_place}
 use Rattle.code_gen.specs.StatementCode.{statement_size}
 use Rattle.code_gen.specs.StatementCode.{items_size, action_size, statement_code, action_code, items_code, texts_in}
 use Rattle.code_gen.specs.StatementCode.{texts_of, texts_among}
-use Rattle.code_gen.specs.StatementRunLaw.{Inside, leads, IsPlainStatement, IsPlainAction, ArePlain, TextsStandAt}
-use Rattle.code_gen.specs.StatementRunLaw.{EachPlainStatementRuns}
+use Rattle.code_gen.specs.StatementRunLaw.{Inside, leads, StatementCallsRunIn, ActionCallsRunIn, ItemsCallsRunIn}
+use Rattle.code_gen.specs.StatementRunLaw.{TextsStandAt}
+use Rattle.code_gen.specs.StatementRunLaw.{EachStatementRuns}
 use Rattle.code_gen.specs.Statements.{statement, action_done, items_from}
 use Rattle.code_gen.proofs.Going.{one_step, stand_front, stand_back, reaches_gives, reaches_bind}
 use Rattle.code_gen.proofs.Lengths.{on_long}
@@ -45,11 +46,13 @@ module _ (program : Program) (table : List Through) (call : Call) where
   abbrev Runs : {names : Names} {flow : FlowTyped} {around : Around} (it : Running) → Inside it names flow around
       → (State → Evaluation Flow) → (from next : ℕ) → Type 0
   Runs it inside x from next = (answered : Bool) (s : State)
-      → Reaches it.environment it.code (stands_at it [] answered from [] s) (x s) (λ f. Bool) (leads it inside next)
+      → Reaches it.environment it.code it.most (stands_at it [] answered from [] s) (x s) (λ f. Bool)
+      (leads it inside next)
 
   mutual
     statement_runs : (it : Running) (names : Names) (flow : FlowTyped) (around : Around)
-        (inside : Inside it names flow around) (st : Statement) → StatementTyped names flow st → IsPlainStatement st
+        (inside : Inside it names flow around) (st : Statement) → StatementTyped names flow st → StatementCallsRunIn
+        it table call st
         → (at text : ℕ) → StandAt it.code it.function at (statement_code program table at text around st)
         → TextsStandAt it.code text (texts_in st)
         → Runs it inside (statement program call it.frame.result st it.frame.held) at (at + size_of around st)
@@ -58,7 +61,7 @@ module _ (program : Program) (table : List Through) (call : Call) where
 
     action_runs : (it : Running) (names : Names) (flow : FlowTyped) (around : Around)
         (inside : Inside it names flow around) (here : Pos) (action : Action) → ActionTyped names flow action
-        → IsPlainAction action → (at text : ℕ)
+        → ActionCallsRunIn it table call action → (at text : ℕ)
         → StandAt it.code it.function at (action_code program table here at text around action)
         → TextsStandAt it.code text (texts_of action)
         → Runs it inside (action_done program call it.frame.result here action it.frame.held) at
@@ -203,7 +206,8 @@ module _ (program : Program) (table : List Through) (call : Call) where
 
     -- the items of a block, from one of them on
     items_runs : (it : Running) (names : Names) (flow : FlowTyped) (around : Around)
-        (inside : Inside it names flow around) (items : Statements) → StatementsTyped names flow items → ArePlain items
+        (inside : Inside it names flow around) (items : Statements) → StatementsTyped names flow items →
+        ItemsCallsRunIn it table call items
         → (at text : ℕ) → StandAt it.code it.function at (items_code program table at text around items)
         → TextsStandAt it.code text (texts_among items) → (skipped : ℕ)
         → Runs it inside (items_from program call it.frame.result items skipped it.frame.held)
@@ -211,11 +215,11 @@ module _ (program : Program) (table : List Through) (call : Call) where
         (at + items_size (length around.left) (length around.left_again) items)
     items_runs it names flow around inside NoStatement t plain at text stands literals zero answered s =
         let same : at ≡ at + 0 = omega arith in
-        reaches_gives it.environment it.code _ Next s (λ f. Bool) (leads it inside (at + 0)) answered
+        reaches_gives it.environment it.code it.most _ Next s (λ f. Bool) (leads it inside (at + 0)) answered
         (ap (λ k. stands_at it [] answered k [] s) same)
     items_runs it names flow around inside NoStatement t plain at text stands literals (suc skipped) answered s =
         let same : at ≡ at + 0 = omega arith in
-        reaches_gives it.environment it.code _ Next s (λ f. Bool) (leads it inside (at + 0)) answered
+        reaches_gives it.environment it.code it.most _ Next s (λ f. Bool) (leads it inside (at + 0)) answered
         (ap (λ k. stands_at it [] answered k [] s) same)
     items_runs it names flow around inside (MoreStatements first rest) t plain at text stands literals (suc skipped)
         answered s =
@@ -234,7 +238,7 @@ module _ (program : Program) (table : List Through) (call : Call) where
         let a : List (Instr × Pos) = statement_code program table at text around first in
         let b : List (Instr × Pos) = items_code program table (at + m) (text + length (texts_in first)) around rest in
         let same : at + m + r ≡ at + (m + r) = omega arith in
-        reaches_bind it.environment it.code _ (statement program call it.frame.result first it.frame.held s) _
+        reaches_bind it.environment it.code it.most _ (statement program call it.frame.result first it.frame.held s) _
         (λ f. Bool) (leads it inside (at + m)) (λ f. Bool) (leads it inside (at + (m + r)))
         (statement_runs it names flow around inside first t.0 plain.0 at text
         (stand_front it.code it.function at a b stands)
@@ -249,6 +253,6 @@ module _ (program : Program) (table : List Through) (call : Call) where
         (pieces_of.texts_back it.code text (texts_in first) (texts_among rest) literals) zero answered2 s2)))
 
 -- as the statement has it
-pub statements_run : EachPlainStatementRuns
+pub statements_run : EachStatementRuns
 statements_run it program table call names flow around inside st t plain at text stands literals =
     statement_runs program table call it names flow around inside st t plain at text stands literals

@@ -94,6 +94,7 @@ module _ (it : Running) where
       let base : Running = record {
         environment = it.environment;
         code = it.code;
+        most = it.most;
         function = it.function;
         frame = record it.frame { held = objects.others };
         rest = it.rest;

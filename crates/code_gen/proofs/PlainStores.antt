@@ -44,7 +44,7 @@ use Rattle.code_gen.specs.ExpressionCode.{on, code_at, objects_in}
 use Rattle.code_gen.specs.ExpressionCode as code_sizes
 use Rattle.code_gen.specs.Expressions.{Call, value}
 use Rattle.code_gen.specs.Flows.{Flow, Next, Returned}
-use Rattle.code_gen.specs.RunLaw.{HasKind, pushed, IsPlain, Left, Comes, Reaches, StandAt, Running, stands_at}
+use Rattle.code_gen.specs.RunLaw.{HasKind, pushed, CallsRunIn, Left, Comes, Reaches, StandAt, Running, stands_at}
 use Rattle.code_gen.specs.StatementCode.{Around, content_code, kills, slots_down, full_size}
 use Rattle.code_gen.specs.StatementRunLaw.{Inside, AreSizes, leads}
 use Rattle.code_gen.specs.Statements.{evaluated, then_next}
@@ -142,7 +142,7 @@ module _ (program : Program) (table : List Through) (call : Call) (it : Running)
   val core = value program call it.frame.held core
 
   abbrev Goes : Place → Evaluation Flow → ℕ → Type 0
-  Goes from x next = Reaches it.environment it.code from x (λ f. Bool) (leads it inside next)
+  Goes from x next = Reaches it.environment it.code it.most from x (λ f. Bool) (leads it inside next)
 
   abbrev place : ℕ → Pointer
   place slot = place_in slot it.frame.held
@@ -150,9 +150,9 @@ module _ (program : Program) (table : List Through) (call : Call) (it : Running)
   -- what a statement does, and then the next one
   next_runs : (from : Place) (x : Evaluation (Unit {0})) (mid next : ℕ) (answered : Bool) → mid ≡ next
       → Does e code from x (λ u s1. here [] answered mid [] s1) (λ u. Unit {0}) → Goes from (then_next x) next
-  next_runs from x mid next answered same does = does_then e code from x (λ u s1. Gives Next s1)
+  next_runs from x mid next answered same does = does_then e code it.most from x (λ u s1. Gives Next s1)
       (λ u s1. here [] answered mid [] s1) (λ u. Unit {0}) (λ f. Bool) (leads it inside next) does
-      (λ u s1 any. reaches_gives e code _ Next s1 (λ f. Bool) (leads it inside next) answered
+      (λ u s1 any. reaches_gives e code it.most _ Next s1 (λ f. Bool) (leads it inside next) answered
       (ap (λ k. here [] answered k [] s1) same))
 
   -- ---- the place of an object
@@ -238,7 +238,7 @@ module _ (program : Program) (table : List Through) (call : Call) (it : Running)
   -- a scalar, or a structure, is stored in a part of it
   pub initialize_runs : (slot byte : ℕ) (of : Content) (core : Core) (position : Pos) (at : ℕ) (answered : Bool)
       (s : State) → LieIn names.objects slot byte (content_size of) → form_of core ≡ content_form of
-      → CoreTyped names core → IsPlain core
+      → CoreTyped names core → CallsRunIn it table call core
       → StandsAt at (on position (i.Slot slot ∷ i.Member byte ∷ []) ++ code_at program table (at + 2) around.values core
       ++ on (pos_in core) (content_code of ∷ i.Drop ∷ kills (slots_down around.values (objects_in core))))
       → Goes (here [] answered at [] s) (then_next (evaluated program call core it.frame.held
@@ -258,10 +258,10 @@ module _ (program : Program) (table : List Through) (call : Call) (it : Running)
       stand_back it.code it.function (at + 2) l a b (code_long program table (at + 2) low core) inner in
       let two : at + 1 + 1 ≡ at + 2 = omega arith in
       let end : mid + 1 + 1 + n ≡ at + (full_size core + 4) = omega arith in
-      reaches_from e code _ (here [] answered (at + 2) (Ptr q ∷ []) s) _ (λ f. Bool) (leads it inside _)
+      reaches_from e code it.most _ (here [] answered (at + 2) (Ptr q ∷ []) s) _ (λ f. Bool) (leads it inside _)
       (comes_on e code _ _ _ (part_comes slot byte (content_size of) at position answered s lies
       (stands.0, (stands.1.0, tt))) (comes_same e code _ _ (ap (λ k. here [] answered k (Ptr q ∷ []) s) two)))
-      (reaches_bind e code _
+      (reaches_bind e code it.most _
       (evaluated program call core it.frame.held (λ v. content_stored of q v (pos_in core)) s) _
       (λ u. Bool × Unit {0}) (whole.Leads it (mid + 1 + 1 + n) (λ u last. [])) (λ f. Bool) (leads it inside _)
       (whole.full_runs it (val core) f (λ v. content_stored of q v (pos_in core)) (λ u. Unit {0}) (Ptr q ∷ [])
@@ -271,16 +271,17 @@ module _ (program : Program) (table : List Through) (call : Call) (it : Running)
       (λ objects answered1 v s1 has.
       stored_reaches of q v objects answered1 mid (pos_in core) s1 has (behind.0, (behind.1.0, tt)))
       behind.1.1 answered s)
-      (λ u s1 left. reaches_gives e code _ Next s1 (λ f. Bool) (leads it inside (at + (full_size core + 4))) left.0
+      (λ u s1 left. reaches_gives e code it.most _ Next s1 (λ f. Bool) (leads it inside (at + (full_size core + 4)))
+      left.0
       (ap (λ k. here [] left.0 k [] s1) end)))
     where
       stored_reaches : (of : Content) (q : Pointer) (v : Value) (objects : List Held) (answered1 : Bool) (mid : ℕ)
           (position1 : Pos) (s1 : State) → HasKind (content_form of) v
           → StandsAt mid (on position1 (content_code of ∷ i.Drop ∷ []))
-          → Reaches e code (here objects answered1 mid (pushed (content_form of) v (Ptr q ∷ [])) s1)
+          → Reaches e code it.most (here objects answered1 mid (pushed (content_form of) v (Ptr q ∷ [])) s1)
           (content_stored of q v position1 s1) (λ u. Unit {0}) (λ u last s2. here objects answered1 (mid + 1 + 1) [] s2)
       stored_reaches of q v objects answered1 mid position1 s1 has there =
-          does_reaches e code _ (content_stored of q v position1 s1)
+          does_reaches e code it.most _ (content_stored of q v position1 s1)
           (λ u s2. here objects answered1 (mid + 1 + 1) [] s2) (λ u. Unit {0})
           (content_does it of q v [] objects answered1 mid position1 s1 has there)
 
@@ -288,7 +289,8 @@ module _ (program : Program) (table : List Through) (call : Call) (it : Running)
 
   -- It is copied to the place of the call.
   pub return_whole_runs : (size : ℕ) (core : Core) (position : Pos) (at next : ℕ) (answered : Bool) (s : State)
-      → flow.gives ≡ Some (content.Whole size) → form_of core ≡ form.Place → CoreTyped names core → IsPlain core
+      → flow.gives ≡ Some (content.Whole size) → form_of core ≡ form.Place → CoreTyped names core → CallsRunIn it
+      table call core
       → StandsAt at (on position (i.Result ∷ []) ++ code_at program table (at + 1) around.values core
       ++ on (pos_in core) (i.Copy size ∷ i.Give ∷ []))
       → Goes (here [] answered at [] s) (evaluated program call core it.frame.held (λ v s1.
@@ -306,9 +308,9 @@ module _ (program : Program) (table : List Through) (call : Call) (it : Running)
       stand_back it.code it.function (at + 1) l a b (code_long program table (at + 1) low core) stands.1 in
       let own : it.function.form ≡ form.Place = inside.form_is ∙ ap given_form gives in
       let back : Flow = Returned (Some (Ptr p)) in
-      reaches_from e code _ (here [] answered (at + 1) (Ptr p ∷ []) s) _ (λ f. Bool) (leads it inside next)
+      reaches_from e code it.most _ (here [] answered (at + 1) (Ptr p ∷ []) s) _ (λ f. Bool) (leads it inside next)
       (one_step (stretch.beside it [] answered) at [] s i.Result position stands.0)
-      (reaches_bind e code _ (val core [] s) _ (Left form.Place low high)
+      (reaches_bind e code it.most _ (val core [] s) _ (Left form.Place low high)
       (stretch.Leads it low form.Place high mid (Ptr p ∷ [])) (λ f. Bool) (leads it inside next)
       (actions.core_runs program table call it names flow around inside core form.Place is t plain (at + 1)
       (stand_front it.code it.function (at + 1) a b stands.1) (Ptr p ∷ []) []
@@ -322,14 +324,14 @@ module _ (program : Program) (table : List Through) (call : Call) (it : Running)
       subst (λ v. Goes (here objects answered1 mid (v ∷ Ptr p ∷ []) s1)
       (bind (bind (copied size p (pointer_in v) (pos_in core) s1) (λ u s2. Gives back s2))
       (λ f s2. Gives f (all_died x.made s2))) next) (sym left.kind.1)
-      (reaches_bind e code _ (bind (copied size p left.kind.0 (pos_in core) s1) (λ u s2. Gives back s2)) _
+      (reaches_bind e code it.most _ (bind (copied size p left.kind.0 (pos_in core) s1) (λ u s2. Gives back s2)) _
       (λ f. f ≡ back) (λ f same s2. here objects answered1 (mid + 1) (Ptr p ∷ []) s2) (λ f. Bool)
       (leads it inside next)
-      (does_then e code _ (copied size p left.kind.0 (pos_in core) s1) _
+      (does_then e code it.most _ (copied size p left.kind.0 (pos_in core) s1) _
       (λ u s2. here objects answered1 (mid + 1) (Ptr p ∷ []) s2) (λ u. Unit {0}) (λ f. f ≡ back)
       (λ f same s2. here objects answered1 (mid + 1) (Ptr p ∷ []) s2)
       (copy_does it size left.kind.0 p [] objects answered1 mid (pos_in core) s1 (behind.0, tt))
-      (λ u s2 any. reaches_gives e code _ back s2 (λ f. f ≡ back)
+      (λ u s2 any. reaches_gives e code it.most _ back s2 (λ f. f ≡ back)
       (λ f same s3. here objects answered1 (mid + 1) (Ptr p ∷ []) s3) refl refl))
       (λ f s2 same.
       let dead : all_died (numbers (objects ++ it.frame.held)) s2
@@ -338,9 +340,10 @@ module _ (program : Program) (table : List Through) (call : Call) (it : Running)
       ∙ ap (λ made. all_died (numbers it.frame.held) (all_died made s2)) left.now.same in
       subst (λ g. Goes (here objects answered1 (mid + 1) (Ptr p ∷ []) s2) (Gives g (all_died x.made s2)) next)
       (sym same)
-      (reaches_from e code _ (gone s2 (Ptr p) []) (Gives back (all_died x.made s2)) (λ f. Bool) (leads it inside next)
+      (reaches_from e code it.most _ (gone s2 (Ptr p) []) (Gives back (all_died x.made s2)) (λ f. Bool)
+      (leads it inside next)
       (comes_on e code _ _ _
       (one_step other (mid + 1) (Ptr p ∷ []) s2 i.Give (pos_in core) behind.1.0)
       (comes_same e code _ _ (ap (λ f. on_form f (Ptr p ∷ []) (gone s2)) own)))
-      (reaches_gives e code _ back (all_died x.made s2) (λ f. Bool) (leads it inside next) answered1
+      (reaches_gives e code it.most _ back (all_died x.made s2) (λ f. Bool) (leads it inside next) answered1
       (ap (λ s3. returned e code (left_by it.function.form p (Ptr p)) (Ptr p) it.rest (call_left s3)) dead)))))))

@@ -34,6 +34,7 @@ abbrev pub beside : Running → List Held → (answered : Bool) → Running
 beside it objects answered = record {
   environment = it.environment;
   code = it.code;
+  most = it.most;
   function = it.function;
   frame = holding it.frame objects answered;
   rest = it.rest;
@@ -74,7 +75,7 @@ module _ (it : Running) (low : ℕ) where
   -- an expression, from one place to another, with the first slot for value objects before it and behind it
   abbrev pub Runs : Evaluates → Form → (from to slot next : ℕ) → Type 0
   Runs part f from to slot next = (operands : List Value) (made : List ℕ) (now : Holding low slot made) (s : State)
-      → Reaches e code (here now.objects now.answered from operands s) (part made s) (Left f low next)
+      → Reaches e code it.most (here now.objects now.answered from operands s) (part made s) (Left f low next)
       (Leads f next to operands)
 
   pub to_place : {slot next : ℕ} (part : Evaluates) (f : Form) (from to there : ℕ) → to ≡ there
@@ -94,7 +95,7 @@ module _ (it : Running) (low : ℕ) where
   pub in_slots : {slot next : ℕ} (part : Evaluates) (f : Form) (from to first last : ℕ) → first ≤ slot → next ≤ last
       → Runs part f from to slot next → Runs part f from to first last
   in_slots {slot} {next} part f from to first last down up runs operands made now s =
-      reaches_on e code (here now.objects now.answered from operands s) (part made s) (Left f low next)
+      reaches_on e code it.most (here now.objects now.answered from operands s) (part made s) (Left f low next)
       (Leads f next to operands) (Left f low last) (Leads f last to operands)
       (runs operands made (holding_more low first slot made down now) s)
       (λ x s1 left. (
@@ -106,7 +107,7 @@ module _ (it : Running) (low : ℕ) where
   pub place_runs : {slot next : ℕ} (part : Evaluates) (from to : ℕ) → Runs part form.Place from to slot next
       → Runs part form.Pointer from to slot next
   place_runs {slot} {next} part from to runs operands made now s =
-      reaches_on e code (here now.objects now.answered from operands s) (part made s) (Left form.Place low next)
+      reaches_on e code it.most (here now.objects now.answered from operands s) (part made s) (Left form.Place low next)
       (Leads form.Place next to operands) (Left form.Pointer low next) (Leads form.Pointer next to operands)
       (runs operands made now s)
       (λ x s1 left. (
@@ -142,14 +143,15 @@ module _ (it : Running) (low : ℕ) where
       (from mid there : ℕ) → Runs part f from mid slot next → OneDoes f g mid there apply
       → Runs (of_one part apply) g from there slot next
   part_then {slot} {next} part apply f g from mid there runs acts operands made now s =
-      reaches_bind e code (here now.objects now.answered from operands s) (part made s) _ (Left f low next)
+      reaches_bind e code it.most (here now.objects now.answered from operands s) (part made s) _ (Left f low next)
       (Leads f next mid operands) (Left g low next) (Leads g next there operands) (runs operands made now s)
       (λ x s1 left.
-      does_then e code _ (apply x.value s1) _
+      does_then e code it.most _ (apply x.value s1) _
       (λ w s2. here left.now.objects left.now.answered there (pushed g w operands) s2) (HasKind g) (Left g low next)
       (Leads g next there operands)
       (acts left.now.objects left.now.answered operands x.value s1 left.kind)
-      (λ w s2 has. reaches_gives e code _ (record x { value = w }) s2 (Left g low next) (Leads g next there operands)
+      (λ w s2 has. reaches_gives e code it.most _ (record x { value = w }) s2 (Left g low next)
+      (Leads g next there operands)
       (record { kind = has; now = left.now }) refl))
 
   -- the right operand alone has a value
@@ -157,7 +159,7 @@ module _ (it : Running) (low : ℕ) where
       → Runs left form.Nothing from mid slot between → Runs right g mid there between next
       → Runs (one_then left right) g from there slot next
   then_right_runs {slot} {between} {next} left right g from mid there runs_l runs_r operands made now s =
-      reaches_bind e code (here now.objects now.answered from operands s) (left made s) _
+      reaches_bind e code it.most (here now.objects now.answered from operands s) (left made s) _
       (Left form.Nothing low between) (Leads form.Nothing between mid operands) (Left g low next)
       (Leads g next there operands) (runs_l operands made now s)
       (λ x s1 l. runs_r operands x.made l.now s1)
@@ -207,20 +209,21 @@ module _ (it : Running) (low : ℕ) where
       to_place right h (at + l) (at + l + r) _ (omega arith)
       (runs_b (stand_back code function at l a b long_a both)) in
       λ operands made now s.
-      reaches_bind e code (here now.objects now.answered at operands s) (left made s) _ (Left f low between)
+      reaches_bind e code it.most (here now.objects now.answered at operands s) (left made s) _ (Left f low between)
       (Leads f between (at + l) operands) (Left g low next) (Leads g next there operands)
       (runs_a (stand_front code function at a b both) operands made now s)
       (λ x s1 one.
-      reaches_bind e code _ (right x.made s1) _ (Left h low next) (Leads h next (at + (l + r)) (pushed f x.value
+      reaches_bind e code it.most _ (right x.made s1) _ (Left h low next) (Leads h next (at + (l + r)) (pushed f x.value
       operands)) (Left g low next) (Leads g next there operands)
       (right_runs (pushed f x.value operands) x.made one.now s1)
       (λ y s2 two.
-      does_then e code _ (apply x.value y.value s2) _
+      does_then e code it.most _ (apply x.value y.value s2) _
       (λ w s3. here two.now.objects two.now.answered there (pushed g w operands) s3) (HasKind g) (Left g low next)
       (Leads g next there operands)
       (acts (behind_two at l r a b (on position instrs) long_a long_b stands) two.now.objects two.now.answered operands
       x.value y.value s2 one.kind two.kind)
-      (λ w s3 has. reaches_gives e code _ (record y { value = w }) s3 (Left g low next) (Leads g next there operands)
+      (λ w s3 has. reaches_gives e code it.most _ (record y { value = w }) s3 (Left g low next)
+      (Leads g next there operands)
       (record { kind = has; now = two.now }) refl)))
 
   pub two_run : {slot between next : ℕ} (left right : Evaluates) (apply : Value → Value → State → Evaluation Value)
@@ -246,10 +249,10 @@ module _ (it : Running) (low : ℕ) where
       ≡ here objects answered (at + 1) (pushed g v operands) s)
       → Runs (yields v) g at (at + 1) slot (slot + 0)
   leaf_runs {slot} v g at instr position stands has acts operands made now s =
-      reaches_from e code _ (part.acting (beside it now.objects now.answered) at operands position s instr)
+      reaches_from e code it.most _ (part.acting (beside it now.objects now.answered) at operands position s instr)
       (yields v made s) (Left g low (slot + 0)) (Leads g (slot + 0) (at + 1) operands)
       (one_step (beside it now.objects now.answered) at operands s instr position stands.0)
-      (reaches_gives e code _ (record { value = v; made = made }) s (Left g low (slot + 0))
+      (reaches_gives e code it.most _ (record { value = v; made = made }) s (Left g low (slot + 0))
       (Leads g (slot + 0) (at + 1) operands)
       (record { kind = has; now = holding_more low slot (slot + 0) made (omega arith) now }) (acts now.objects
       now.answered operands s now.slots))
@@ -259,14 +262,16 @@ module _ (it : Running) (low : ℕ) where
       → StandAt code function at (on position (i.IfZero to ∷ []))
       → Runs x g (at + 1) there slot next → Runs y g to there slot next → (operands : List Value) (made : List ℕ)
       (now : Holding low slot made) (n : ℤ) (s : State)
-      → Reaches e code (here now.objects now.answered at (Num n ∷ operands) s) (one_of (not (is_zero n)) x y made s)
+      → Reaches e code it.most (here now.objects now.answered at (Num n ∷ operands) s)
+      (one_of (not (is_zero n)) x y made s)
       (Left g low next) (Leads g next there operands)
   fork_does {slot} {next} x y g at to there position stands runs_x runs_y operands made now n s =
-      reaches_from e code _ _ (one_of (not (is_zero n)) x y made s) (Left g low next) (Leads g next there operands)
+      reaches_from e code it.most _ _ (one_of (not (is_zero n)) x y made s) (Left g low next)
+      (Leads g next there operands)
       (one_step (beside it now.objects now.answered) at (Num n ∷ operands) s (i.IfZero to) position stands.0)
       (by_zero (is_zero n))
     where
-      by_zero : (b : Bool) → Reaches e code (cond b (here now.objects now.answered to operands s)
+      by_zero : (b : Bool) → Reaches e code it.most (cond b (here now.objects now.answered to operands s)
           (here now.objects now.answered (at + 1) operands s)) (one_of (not b) x y made s) (Left g low next)
           (Leads g next there operands)
       by_zero true = runs_y operands made now s
@@ -279,17 +284,19 @@ module _ (it : Running) (low : ℕ) where
       → Runs (by_test test x y) g at there slot next
   test_runs {slot} {between} {next} test x y f g at l to there position is runs stands runs_x runs_y operands made now
       s =
-      reaches_bind e code _ (test made s) _ (Left f low between) (Leads f between (at + l) operands) (Left g low next)
+      reaches_bind e code it.most _ (test made s) _ (Left f low between) (Leads f between (at + l) operands)
+      (Left g low next)
       (Leads g next there operands) (runs operands made now s) (λ v s1 left.
       let number : (n : ℤ) × IsLeftAs f v.value (Num n) = number_left f v.value is left.kind in
       let objects : List Held = left.now.objects in
       let answered : Bool = left.now.answered in
-      let d : Reaches e code (here objects answered (at + l) (Num number.0 ∷ operands) s1)
+      let d : Reaches e code it.most (here objects answered (at + l) (Num number.0 ∷ operands) s1)
       (one_of (not (is_zero number.0)) x y v.made s1) (Left g low next) (Leads g next there operands) =
       fork_does x y g (at + l) to there position stands runs_x runs_y operands v.made left.now number.0 s1 in
-      subst (λ ops. Reaches e code (here objects answered (at + l) ops s1) (one_of (is_true v.value) x y v.made s1)
+      subst (λ ops. Reaches e code it.most (here objects answered (at + l) ops s1)
+      (one_of (is_true v.value) x y v.made s1)
       (Left g low next) (Leads g next there operands)) (sym (number.1.on_top operands))
-      (subst (λ w. Reaches e code (here objects answered (at + l) (Num number.0 ∷ operands) s1)
+      (subst (λ w. Reaches e code it.most (here objects answered (at + l) (Num number.0 ∷ operands) s1)
       (one_of (is_true w) x y v.made s1) (Left g low next) (Leads g next there operands)) (sym number.1.value_is) d))
 
   -- ---- jumps
@@ -298,7 +305,7 @@ module _ (it : Running) (low : ℕ) where
       → StandAt code function mid (on position (i.Jump to ∷ [])) → Runs part f from mid slot next
       → Runs part f from to slot next
   jump_runs {slot} {next} part f from mid to position stands runs operands made now s =
-      reaches_on e code _ (part made s) (Left f low next) (Leads f next mid operands) (Left f low next)
+      reaches_on e code it.most _ (part made s) (Left f low next) (Leads f next mid operands) (Left f low next)
       (Leads f next to operands) (runs operands made now s)
       (λ x s1 left. (
         left,

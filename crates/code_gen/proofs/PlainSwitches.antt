@@ -34,7 +34,7 @@ use Rattle.code_gen.specs.CalledTypes.{Through}
 use Rattle.code_gen.specs.ExpressionCode.{on}
 use Rattle.code_gen.specs.Expressions.{Call}
 use Rattle.code_gen.specs.Flows.{Flow, Next, Broke, Continued, Returned, label_at, behind_switch}
-use Rattle.code_gen.specs.RunLaw.{IsPlain, Reaches, StandAt, Running, stands_at}
+use Rattle.code_gen.specs.RunLaw.{CallsRunIn, Reaches, StandAt, Running, stands_at}
 use Rattle.code_gen.specs.StatementCode.{Around, in_switch, within_block, full_size, full_code, items_size, item_place}
 use Rattle.code_gen.specs.StatementCode.{items_code, action_size, action_code, makes, kills_of, pairs_to, pairs_by}
 use Rattle.code_gen.specs.StatementCode.{default_to, switch_code}
@@ -81,7 +81,7 @@ module _ (program : Program) (table : List Through) (call : Call) (it : Running)
   here answered at operands s = stands_at it [] answered at operands s
 
   abbrev Goes : Place → Evaluation Flow → ℕ → Type 0
-  Goes from x next = Reaches it.environment it.code from x (λ f. Bool) (leads it inside next)
+  Goes from x next = Reaches it.environment it.code it.most from x (λ f. Bool) (leads it inside next)
 
   -- the items of a switch, outside of its block
   abbrev pub inside_switch : (end : ℕ) → Inside it names (typed.in_switch flow) (in_switch end around)
@@ -97,12 +97,14 @@ module _ (program : Program) (table : List Through) (call : Call) (it : Running)
   -- where the items lead, the switch leads
   switch_left : (end : ℕ) (f : Flow) (answered : Bool) (s : State)
       → Goes (leads it (inside_switch end) end f answered s) (Gives (behind_switch f) s) end
-  switch_left end Next answered s = reaches_gives e code _ Next s (λ f. Bool) (leads it inside end) answered refl
-  switch_left end Broke answered s = reaches_gives e code _ Next s (λ f. Bool) (leads it inside end) answered refl
+  switch_left end Next answered s = reaches_gives e code it.most _ Next s (λ f. Bool) (leads it inside end) answered
+      refl
+  switch_left end Broke answered s = reaches_gives e code it.most _ Next s (λ f. Bool) (leads it inside end) answered
+      refl
   switch_left end Continued answered s =
-      reaches_gives e code _ Continued s (λ f. Bool) (leads it inside end) answered refl
+      reaches_gives e code it.most _ Continued s (λ f. Bool) (leads it inside end) answered refl
   switch_left end (Returned v) answered s =
-      reaches_gives e code _ (Returned v) s (λ f. Bool) (leads it inside end) answered refl
+      reaches_gives e code it.most _ (Returned v) s (λ f. Bool) (leads it inside end) answered refl
 
   -- ---- the code
 
@@ -167,7 +169,8 @@ module _ (program : Program) (table : List Through) (call : Call) (it : Running)
     ItemsRun end first = (made : List Held) (answered : Bool)
         (are : parts.AreMade it locals [] names around.values made) (skipped : ℕ) (s : State)
         → let inner : Around = within_block locals (in_switch end around) in
-        Reaches e code (stands_at it made answered (item_place first (length inner.left) (length inner.left_again) items
+        Reaches e code it.most (stands_at it made answered
+        (item_place first (length inner.left) (length inner.left_again) items
         skipped) [] s) (items_from program call it.frame.result items skipped (made ++ it.frame.held) s) (λ f. Bool)
         (leads (blocks.block_of it names (typed.in_switch flow) (in_switch end around) (inside_switch end) locals made
         answered are fresh)
@@ -195,10 +198,10 @@ module _ (program : Program) (table : List Through) (call : Call) (it : Running)
         let again_at : first + m + l + 1 ≡ passed = omega (arith, passed_is) in
         let drops : StandsOn passed position (i.Drop ∷ []) =
         subst (λ p. StandsOn p position (i.Drop ∷ [])) again_at back.1 in
-        reaches_from e code _ (here answered (passed + 1) [] s) (Gives Next s) (λ f. Bool)
+        reaches_from e code it.most _ (here answered (passed + 1) [] s) (Gives Next s) (λ f. Bool)
         (leads it inside (passed + 1))
         (one_step (stretch.beside it [] answered) passed (Num n ∷ []) s i.Drop position drops.0)
-        (reaches_gives e code _ Next s (λ f. Bool) (leads it inside (passed + 1)) answered refl)
+        (reaches_gives e code it.most _ Next s (λ f. Bool) (leads it inside (passed + 1)) answered refl)
     entered_runs at entered first passed first_is passed_is asks behind runs n (Some k) is answered s =
         let l : ℕ = length locals in
         let a : ℕ = length around.left_again + l in
@@ -221,7 +224,7 @@ module _ (program : Program) (table : List Through) (call : Call) (it : Running)
         (on_back (first + m) l position (kills_of locals) jumps (kills_of_long locals) behind) in
         let block : State → Evaluation Flow =
         in_block locals (items_from program call it.frame.result items k) it.frame.held in
-        reaches_bind e code _ (block s) _ (λ f. Bool) (leads it (inside_switch end) end) (λ f. Bool)
+        reaches_bind e code it.most _ (block s) _ (λ f. Bool) (leads it (inside_switch end) end) (λ f. Bool)
         (leads it inside end)
         (actions.goes_on program table call it names (typed.in_switch flow) (in_switch end around) (inside_switch end)
         (here answered entered (Num n ∷ []) s) (block s) (entered + l + size + l) end
@@ -236,16 +239,16 @@ module _ (program : Program) (table : List Through) (call : Call) (it : Running)
         sym (item_place_at first items _ _ _ _ k left_is again_is) in
         let end_is : first + items_size (length inner.left) (length inner.left_again) items ≡ entered + l + size =
         ap (λ w. first + w) (items_size_at items _ _ _ _ left_is again_is) ∙ kills_at in
-        reaches_from e code _ (stands_at it made answered (item k) [] s1)
+        reaches_from e code it.most _ (stands_at it made answered (item k) [] s1)
         (items_from program call it.frame.result items k (made ++ it.frame.held) s1) (λ f. Bool) _
         (cases_come it made answered (entered + l) (length cases) (item k) n [] position s1 asks.again found)
-        (subst (λ w. Reaches e code (stands_at it made answered (item k) [] s1)
+        (subst (λ w. Reaches e code it.most (stands_at it made answered (item k) [] s1)
         (items_from program call it.frame.result items k (made ++ it.frame.held) s1) (λ f. Bool)
         (leads (blocks.block_of it names (typed.in_switch flow) (in_switch end around) (inside_switch end) locals made
         answered are fresh)
         (blocks.inside_block it names (typed.in_switch flow) (in_switch end around) (inside_switch end) locals made
         answered are fresh) w)) end_is
-        (subst (λ p. Reaches e code (stands_at it made answered p [] s1)
+        (subst (λ p. Reaches e code it.most (stands_at it made answered p [] s1)
         (items_from program call it.frame.result items k (made ++ it.frame.held) s1) (λ f. Bool)
         (leads (blocks.block_of it names (typed.in_switch flow) (in_switch end around) (inside_switch end) locals made
         answered are fresh)
@@ -256,7 +259,7 @@ module _ (program : Program) (table : List Through) (call : Call) (it : Running)
         one_step (stretch.beside it [] answered1) (entered + l + size + l) [] s1 (i.Jump end) position jump_stands.0))
         (λ f s1 answered1. switch_left end f answered1 s1)
 
-    pub switch_runs : (core : Core) (at text : ℕ) → CoreTyped names core → IsPlain core
+    pub switch_runs : (core : Core) (at text : ℕ) → CoreTyped names core → CallsRunIn it table call core
         → AreLabels (form_of core) items cases default
         → StandAt it.code it.function at
         (action_code program table position at text around (unit.Switch core locals items cases default))
@@ -297,7 +300,8 @@ module _ (program : Program) (table : List Through) (call : Call) (it : Running)
         asks_stand (at + v) entered passed item position locals cases default (omega arith) pieces.second in
         let next : ℕ = at + (v + (c + (l + (c + (m + (l + 7)))))) in
         let next_is : passed + 1 ≡ next = omega arith in
-        reaches_bind e code _ (evaluated program call core it.frame.held Gives s) _ (λ x. Bool × actions.IsNumeric x)
+        reaches_bind e code it.most _ (evaluated program call core it.frame.held Gives s) _
+        (λ x. Bool × actions.IsNumeric x)
         (λ x left s1. here left.0 (at + v) (Num left.1.0 ∷ []) s1) (λ f. Bool) (leads it inside next)
         (actions.number_runs program table call it names flow around inside core position at answered s
         (labels_number (form_of core) items cases default labels) t plain pieces.first)
@@ -313,7 +317,7 @@ module _ (program : Program) (table : List Through) (call : Call) (it : Running)
         (at + v + 1 + 1) fits in
         subst (λ y. Goes (here left.0 (at + v) (Num n ∷ []) s1) (entered_at (label_at (number_in y) cases default)
         (λ k. in_block locals (items_from program call it.frame.result items k) it.frame.held) s1) next) (sym left.1.1)
-        (reaches_from e code _ (here left.0 (default_to label entered passed) (Num n ∷ []) s1) _ (λ f. Bool)
+        (reaches_from e code it.most _ (here left.0 (default_to label entered passed) (Num n ∷ []) s1) _ (λ f. Bool)
         (leads it inside next)
         (comes_on e code _ _ _
         (one_step (stretch.beside it [] left.0) (at + v) (Num n ∷ []) s1 i.Duplicate position asks.twice.0)

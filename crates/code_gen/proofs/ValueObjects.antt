@@ -149,37 +149,37 @@ module _ (it : Running) (low : ℕ) where
         let b : List (Instr × Pos) = on position (i.Make next size ∷ i.Slot next ∷ i.Swap ∷ i.Copy size ∷ []) in
         let behind : StandAt code function k b =
         stand_back code function at (code_sizes.size_in operand) a b (code_long program table at slot operand) stands in
-        reaches_bind e code _ (val operand made s) _ (Left (form_of operand) low next)
+        reaches_bind e code it.most _ (val operand made s) _ (Left (form_of operand) low next)
         (stretch.Leads it low (form_of operand) next k operands) (Left form.Place low last)
         (stretch.Leads it low form.Place last there operands)
         (runs (stand_front code function at a b stands) operands made now s)
         (λ x s1 left.
         let l : (p : Pointer) × IsLeftAs (form_of operand) x.value (Ptr p) =
         pointer_left (form_of operand) x.value (a_place (form_of operand) is_place) left.kind in
-        subst (λ v. Reaches e code (here left.now.objects left.now.answered k (pushed (form_of operand) x.value
+        subst (λ v. Reaches e code it.most (here left.now.objects left.now.answered k (pushed (form_of operand) x.value
         operands)
         s1) (argument_object size (pointer_in v) position x.made s1) (Left form.Place low last)
         (stretch.Leads it low form.Place last there operands)) (sym l.1.value_is)
-        (subst (λ ops. Reaches e code (here left.now.objects left.now.answered k ops s1)
+        (subst (λ ops. Reaches e code it.most (here left.now.objects left.now.answered k ops s1)
         (argument_object size l.0 position x.made s1) (Left form.Place low last)
         (stretch.Leads it low form.Place last there operands)) (sym (l.1.on_top operands))
-        (subst (λ ev. Reaches e code (here left.now.objects left.now.answered k (Ptr l.0 ∷ operands) s1) ev
+        (subst (λ ev. Reaches e code it.most (here left.now.objects left.now.answered k (Ptr l.0 ∷ operands) s1) ev
         (Left form.Place low last) (stretch.Leads it low form.Place last there operands))
         (bind_behind (automatic_made size s1) (λ place s2. Gives (record {
           value = Ptr place;
           made = place.object ∷ x.made;
         }) s2) (λ y s2. bind (copied size (pointer_in y.value) l.0 position s2) (λ u s3. Gives y s3)))
-        (does_then e code _ (automatic_made size s1) _
+        (does_then e code it.most _ (automatic_made size s1) _
         (λ place s2. here (held_new next place size ∷ left.now.objects) left.now.answered (k + 1) (Ptr l.0 ∷ operands)
         s2) (IsWhole size) (Left form.Place low last) (stretch.Leads it low form.Place last there operands)
         (make_does next size k position left.now.objects left.now.answered (Ptr l.0 ∷ operands) s1 (behind.0, tt))
         (λ place s2 is_whole.
-        does_then e code _ (copied size place l.0 position s2) _
+        does_then e code it.most _ (copied size place l.0 position s2) _
         (λ u s3. here (held_new next place size ∷ left.now.objects) left.now.answered there (Ptr place ∷ operands) s3)
         (λ u. Unit {0}) (Left form.Place low last) (stretch.Leads it low form.Place last there operands)
         (copy_does next size (k + 1) there position left.now.objects left.now.answered operands place l.0 s2
         (omega arith) is_whole behind.1)
-        (λ u s3 any. reaches_gives e code _ (record { value = Ptr place; made = place.object ∷ x.made }) s3
+        (λ u s3 any. reaches_gives e code it.most _ (record { value = Ptr place; made = place.object ∷ x.made }) s3
         (Left form.Place low last) (stretch.Leads it low form.Place last there operands)
         (record {
           kind = (place, refl);

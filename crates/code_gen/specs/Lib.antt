@@ -22,3 +22,4 @@ pub mod SizeLaw
 pub mod JournalLaw
 pub mod RunLaw
 pub mod StatementRunLaw
+pub mod UnitRunLaw

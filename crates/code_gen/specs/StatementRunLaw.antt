@@ -1,55 +1,72 @@
--- The machine's run of the code of a statement is what the meaning of the statement gives: so far of each statement
--- without calls.
+-- The machine's run of the code of a statement is what the meaning of the statement gives, where each call in it runs
+-- as it is meant.
 use Rattle.std.specs.Prelude.{◌≡◌, ℕ, ◌+◌, ◌≤◌, Bool, List, [], ◌∷◌, ◌++◌, length, map, unwrap_or, Some}
 use Rattle.std.specs.List.{slice_get}
 use Rattle.lib_defs.specs.declared.value.Value.TheVariants.{Nothing}
 use Rattle.run_defs.specs.State.{State}
+use Rattle.run_defs.specs.Functions.{Environment}
 use Rattle.c_core.specs.Forms.{given_form}
 use Rattle.c_core.specs.declared.statement.Local.{Local}
 use Rattle.c_core.specs.Named.{Names}
+use Rattle.c_core.specs.Tree.{Core}
 use Rattle.c_core.specs.TreeUnit.{Statement, Stands, Action, Statements, NoStatement, MoreStatements, Program}
 use Rattle.c_core.specs.TreeUnit as unit
 use Rattle.c_core.specs.Types.{IsSize}
 use Rattle.c_core.specs.TypedUnit.{Flow as FlowTyped, StatementTyped}
 use Rattle.vm_code.specs.Calling.{leaves}
 use Rattle.vm_code.specs.Contents.{Contents}
-use Rattle.vm_code.specs.Frames.{Place}
+use Rattle.vm_code.specs.Frames.{Frame, Place}
 use Rattle.vm_code.specs.Slots.{Held, numbers, all_died}
 use Rattle.code_gen.specs.CalledTypes.{Through}
 use Rattle.code_gen.specs.Expressions.{Call}
 use Rattle.code_gen.specs.Flows.{Flow, Next, Broke, Continued, Returned}
-use Rattle.code_gen.specs.RunLaw.{IsPlain, IsAround, Reaches, Running, StandAt, standing, stands_at}
+use Rattle.code_gen.specs.RunLaw.{CallsRun, IsAround, Reaches, Running, StandAt, standing, stands_at}
 use Rattle.code_gen.specs.StatementCode.{Around, statement_size, statement_code, texts_in}
 use Rattle.code_gen.specs.Statements.{statement}
 
--- ---- statements without calls
+-- ---- calls in statements
 
-abbrev mutual
-  pub IsPlainStatement : Statement → Type 0
-  IsPlainStatement (Stands here action) = IsPlainAction action
+module _ (e : Environment) (code : Contents) (most : ℕ) (rest : List Frame) (table : List Through) (call : Call) where
+  abbrev Calls : Core → Type 0
+  Calls core = CallsRun e code most rest table call core
 
-  pub IsPlainAction : Action → Type 0
-  IsPlainAction (unit.Block locals items) = ArePlain items
-  IsPlainAction (unit.Zero slot size) = Unit {0}
-  IsPlainAction (unit.Initialize slot at content value) = IsPlain value
-  IsPlainAction (unit.InitializeBytes slot at bytes) = Unit {0}
-  IsPlainAction (unit.SealBytes slot at len) = Unit {0}
-  IsPlainAction (unit.Evaluate core) = IsPlain core
-  IsPlainAction (unit.If test first second) =
-      IsPlain test × IsPlainStatement first × IsPlainStatement second
-  IsPlainAction (unit.While test body) = IsPlain test × IsPlainStatement body
-  IsPlainAction (unit.Do body test) = IsPlainStatement body × IsPlain test
-  IsPlainAction (unit.For test step body) = IsPlain test × IsPlain step × IsPlainStatement body
-  IsPlainAction (unit.Switch value locals items cases default) = IsPlain value × ArePlain items
-  IsPlainAction unit.Break = Unit {0}
-  IsPlainAction unit.Continue = Unit {0}
-  IsPlainAction unit.Return = Unit {0}
-  IsPlainAction (unit.ReturnValue value) = IsPlain value
-  IsPlainAction (unit.ReturnWhole size value) = IsPlain value
+  -- each call in a statement runs as it is meant
+  abbrev mutual
+    pub StatementCallsRun : Statement → Type 0
+    StatementCallsRun (Stands here action) = ActionCallsRun action
 
-  pub ArePlain : Statements → Type 0
-  ArePlain NoStatement = Unit {0}
-  ArePlain (MoreStatements first rest) = IsPlainStatement first × ArePlain rest
+    pub ActionCallsRun : Action → Type 0
+    ActionCallsRun (unit.Block locals items) = ItemsCallsRun items
+    ActionCallsRun (unit.Zero slot size) = Unit {0}
+    ActionCallsRun (unit.Initialize slot at content value) = Calls value
+    ActionCallsRun (unit.InitializeBytes slot at bytes) = Unit {0}
+    ActionCallsRun (unit.SealBytes slot at len) = Unit {0}
+    ActionCallsRun (unit.Evaluate core) = Calls core
+    ActionCallsRun (unit.If test first second) =
+        Calls test × StatementCallsRun first × StatementCallsRun second
+    ActionCallsRun (unit.While test body) = Calls test × StatementCallsRun body
+    ActionCallsRun (unit.Do body test) = StatementCallsRun body × Calls test
+    ActionCallsRun (unit.For test step body) = Calls test × Calls step × StatementCallsRun body
+    ActionCallsRun (unit.Switch value locals items cases default) = Calls value × ItemsCallsRun items
+    ActionCallsRun unit.Break = Unit {0}
+    ActionCallsRun unit.Continue = Unit {0}
+    ActionCallsRun unit.Return = Unit {0}
+    ActionCallsRun (unit.ReturnValue value) = Calls value
+    ActionCallsRun (unit.ReturnWhole size value) = Calls value
+
+    pub ItemsCallsRun : Statements → Type 0
+    ItemsCallsRun NoStatement = Unit {0}
+    ItemsCallsRun (MoreStatements first rest) = StatementCallsRun first × ItemsCallsRun rest
+
+-- each call in a statement, in one action, or in the items of a block, of a function that runs
+abbrev pub StatementCallsRunIn : Running → List Through → Call → Statement → Type 0
+StatementCallsRunIn it table call st = StatementCallsRun it.environment it.code it.most it.rest table call st
+
+abbrev pub ActionCallsRunIn : Running → List Through → Call → Action → Type 0
+ActionCallsRunIn it table call action = ActionCallsRun it.environment it.code it.most it.rest table call action
+
+abbrev pub ItemsCallsRunIn : Running → List Through → Call → Statements → Type 0
+ItemsCallsRunIn it table call items = ItemsCallsRun it.environment it.code it.most it.rest table call items
 
 -- ---- where a statement leads
 
@@ -98,12 +115,12 @@ TextsStandAt code text (bytes ∷ rest) =
 
 -- Where the code of a statement stands, with the literals that initialize its arrays, the machine does what the
 -- statement means, and goes on where the program does.
-abbrev pub EachPlainStatementRuns : Type 0
-EachPlainStatementRuns = (it : Running) (program : Program) (table : List Through) (call : Call) (names : Names)
+abbrev pub EachStatementRuns : Type 0
+EachStatementRuns = (it : Running) (program : Program) (table : List Through) (call : Call) (names : Names)
     (flow : FlowTyped) (around : Around) (inside : Inside it names flow around) (st : Statement)
-    → StatementTyped names flow st → IsPlainStatement st → (at text : ℕ)
+    → StatementTyped names flow st → StatementCallsRunIn it table call st → (at text : ℕ)
     → StandAt it.code it.function at (statement_code program table at text around st)
     → TextsStandAt it.code text (texts_in st) → (answered : Bool) (s : State)
-    → Reaches it.environment it.code (stands_at it [] answered at [] s)
+    → Reaches it.environment it.code it.most (stands_at it [] answered at [] s)
     (statement program call it.frame.result st it.frame.held s) (λ f. Bool)
     (leads it inside (at + statement_size (length around.left) (length around.left_again) st))

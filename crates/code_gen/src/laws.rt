@@ -2,9 +2,10 @@
 ghost use Rattle.code_gen.specs.JournalLaw.{EachJournalIsLawful};
 ghost use Rattle.code_gen.specs.Law.{EachJournalEnds};
 ghost use Rattle.code_gen.specs.Lifetimes.{AutomaticObjectsAreAStack};
-ghost use Rattle.code_gen.specs.RunLaw.{EachPlainExpressionRuns};
+ghost use Rattle.code_gen.specs.RunLaw.{EachExpressionRuns};
 ghost use Rattle.code_gen.specs.SizeLaw.{AllSizesAreLengths};
-ghost use Rattle.code_gen.specs.StatementRunLaw.{EachPlainStatementRuns};
+ghost use Rattle.code_gen.specs.StatementRunLaw.{EachStatementRuns};
+ghost use Rattle.code_gen.specs.UnitRunLaw.{EachUnitRuns};
 
 /// The last event of each run is its end, and tells its outcome.
 pub fn end_law()
@@ -34,17 +35,24 @@ pub fn lifetime_law()
 
 /// The machine does what an expression means: where the code of the expression stands, the run comes behind it with the
 /// value on the operands and the value objects that were made in slots of their own, in the state that the meaning
-/// gives, or ends as the meaning stops; with the same output, journal and ticks. So far of each well-typed expression
-/// without calls.
+/// gives, or ends as the meaning stops; with the same output, journal and ticks. It holds of each well-typed expression
+/// whose calls run as they are meant.
 pub fn run_law()
-    ensures { EachPlainExpressionRuns }
+    ensures { EachExpressionRuns }
 {}
 
 /// The machine does what a statement means: where the code of the statement stands, the run comes to where the program
 /// goes on, to the next statement, out of a loop or switch, to the next turn or to the caller, in the state that the
 /// meaning gives once a jump has let the objects die that it leaves; or it ends as the meaning stops. The literals that
-/// initialize arrays are to stand among the texts of the code, and the objects that are named to have sizes. So far of
-/// each well-typed statement without calls.
+/// initialize arrays are to stand among the texts of the code, and the objects that are named to have sizes. It holds
+/// of each well-typed statement whose calls run as they are meant.
 pub fn statement_run_law()
-    ensures { EachPlainStatementRuns }
+    ensures { EachStatementRuns }
+{}
+
+/// The machine does what a unit means: the run of the code of a well-typed unit ends with the outcome, the output, the
+/// error output, the journal and the ticks of its meaning. So it is over every library whose rows answer as their
+/// prototypes give, with any input and within all budgets of ticks and bytes.
+pub fn unit_run_law()
+    ensures { EachUnitRuns }
 {}

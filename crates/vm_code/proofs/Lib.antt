@@ -4,9 +4,9 @@ mod ObjectRuns
 mod CallRuns
 mod LibraryRuns
 pub mod Fronts
-mod TicksFall
-mod ServedTicks
-mod AccessTicks
+pub mod TicksFall
+pub mod ServedTicks
+pub mod AccessTicks
 mod Weights
 mod Acting
 mod ActingOn
