@@ -67,7 +67,7 @@ pub(crate) fn operand(
 
 /// An expression as a value, which may be void (6.3.2.1). The flag tells that the value is used.
 #[cycle(typing)]
-pub(crate) fn used_operand(
+pub fn used_operand(
     scopes: &mut Scopes,
     types: &mut TypeTable,
     is_used: bool,

@@ -41,8 +41,8 @@ pub fn identifier(
     name(types, at, found)
 }
 
-// How many units adjacent literals have, if a `u32` holds it.
-fn units_among(text: &Literals) -> Option<u32>
+/// How many units adjacent literals have together, if a `u32` holds it (6.4.5p6).
+pub fn units_among(text: &Literals) -> Option<u32>
     ensures { MatchOption result (2 ^ 32 ≤ rule.units_among text.now.units.items)
         (λ n. n ≡ rule.units_among text.now.units.items) }
 {
