@@ -3,3 +3,5 @@ pub mod Elements
 pub mod Sealed
 pub mod Verdicts
 pub mod StoreExamples
+pub mod InPlace
+pub mod PartTargets

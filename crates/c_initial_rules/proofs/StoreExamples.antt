@@ -1,13 +1,13 @@
 -- Constants, literals and parts of objects on either side of each constraint.
 use Rattle.std.proofs.Common.{◌≡◌, ℕ, List, [], ◌∷◌, true, false, refl}
-use Rattle.std.specs.Prelude.{pos, negsuc, Option, Some, None, codes}
+use Rattle.std.specs.Prelude.{pos, negsuc, Bool, Option, Some, None, codes}
 use Rattle.acc_num.specs.declared.kind.IntKind.TheVariants as kind
 use Rattle.acc_num.specs.Operations.{converted_to}
 use Rattle.critical_table.specs.declared.pos.Pos.{Pos}
 use Rattle.c_types.specs.declared.basic.Basic.TheVariants as b
 use Rattle.c_types.specs.CType.{CType, Array, Plain, Compound, no_quals}
 use Rattle.c_types.specs.Compatible.{agree, bare_agree}
-use Rattle.c_types.specs.Structures.{TypedMember}
+use Rattle.c_types.specs.Structures.{Structure, TypedMember}
 use Rattle.c_core.specs.declared.named.ObjectName.TheVariants as object
 use Rattle.c_core.specs.declared.form.Scalar.TheVariants as scalar
 use Rattle.c_core.specs.Tree.{Core, At}
@@ -19,9 +19,9 @@ use Rattle.c_conversions.specs.Parts.{value}
 use Rattle.c_initial_rules.specs.declared.addresses.PointerConstant.{PointerConstant}
 use Rattle.c_initial_rules.specs.declared.addresses.PointerConstant.TheVariants as p
 use Rattle.c_initial_rules.specs.Addresses.{pointer_constant}
-use Rattle.c_initial_rules.specs.Initials.{Fixed, Elements, Members, part_at, next_part, index_rule, member_rule}
-use Rattle.c_initial_rules.specs.Initials.{item_rule}
+use Rattle.c_initial_rules.specs.Initials.{Fixed, item_rule}
 use Rattle.c_initial_rules.specs.Literals.{literal_fit_rule, literal_bytes, suits_array}
+use Rattle.c_initial_rules.specs.Parts.{part_of, next_part, index_rule, member_rule}
 
 abbrev at : ℕ → Pos
 at column = record { line = 1; column = column }
@@ -142,29 +142,45 @@ member name place = record { name = name; of = int; at = place }
 abbrev two : List TypedMember
 two = member (codes "a") 0 ∷ member (codes "b") 4 ∷ []
 
-second_element : part_at (Elements int 4 (Some 2)) 8 1 ≡ Some (record { type = int; at = 12 })
+abbrev whole : Bool → List Structure
+whole is_union = record {
+  is_union = is_union;
+  body = Some (record { members = two; layout = record { size = 8; align = 4 }; has_const = false });
+} ∷ []
+
+abbrev compound : CType
+compound = Plain (Compound 0) no_quals
+
+second_element : part_of [] (ints 2) 8 1 ≡ Some (record { type = int; at = 12 })
 second_element = refl
 
-no_third_element : part_at (Elements int 4 (Some 2)) 8 2 ≡ None
+no_third_element : part_of [] (ints 2) 8 2 ≡ None
 no_third_element = refl
 
-second_member : part_at (Members false two) 8 (next_part (Members false two) 0) ≡ Some (record { type = int; at = 12 })
+second_member : part_of (whole false) compound 8 (next_part (whole false) compound 0)
+    ≡ Some (record { type = int; at = 12 })
 second_member = refl
 
-no_second_of_union : part_at (Members true two) 8 (next_part (Members true two) 0) ≡ None
+no_second_of_union : part_of (whole true) compound 8 (next_part (whole true) compound 0) ≡ None
 no_second_of_union = refl
 
-named_member : member_rule (Members false two) (codes "b") ≡ Fits 1
+named_member : member_rule (whole false) compound (codes "b") ≡ Fits 1
 named_member = refl
 
-no_member : member_rule (Members false two) (codes "c") ≡ Breaks 17
+no_member : member_rule (whole false) compound (codes "c") ≡ Breaks 17
 no_member = refl
 
-index_inside : index_rule (Elements int 4 (Some 2)) (Some (pos 1)) ≡ Fits 1
+no_member_of_array : member_rule (whole false) (ints 2) (codes "a") ≡ Breaks 17
+no_member_of_array = refl
+
+index_inside : index_rule (ints 2) (Some (pos 1)) ≡ Fits 1
 index_inside = refl
 
-index_beyond : index_rule (Elements int 4 (Some 2)) (Some (pos 2)) ≡ Breaks 17
+index_beyond : index_rule (ints 2) (Some (pos 2)) ≡ Breaks 17
 index_beyond = refl
 
-index_below : index_rule (Elements int 4 None) (Some (negsuc 0)) ≡ Breaks 17
+index_below : index_rule (Array int None) (Some (negsuc 0)) ≡ Breaks 17
 index_below = refl
+
+no_element_of_structure : index_rule compound (Some (pos 0)) ≡ Breaks 17
+no_element_of_structure = refl

@@ -1,10 +1,8 @@
 -- What an initializer stores, item by item (6.7.9).
-use Rattle.std.specs.Prelude.{ℕ, ◌+◌, ◌*◌, ℤ, pos, int_le, unsigned_abs, nat_lt, length, Bool, true, false}
-use Rattle.std.specs.Prelude.{not, ◌&&◌, ◌||◌, List, [], ◌∷◌, Option, Some, None, slice_get, is_some, if◌then◌else◌}
-use Rattle.std.specs.Option.{option_map}
-use Rattle.std.specs.Str.{bytes_eq}
+use Rattle.std.specs.Prelude.{ℕ, Bool, true, false}
+use Rattle.std.specs.Prelude.{not, ◌&&◌, ◌||◌, List, [], ◌∷◌, Option, Some, None}
 use Rattle.c_types.specs.CType.{CType}
-use Rattle.c_types.specs.Structures.{Structure, TypedMember}
+use Rattle.c_types.specs.Structures.{Structure}
 use Rattle.c_core.specs.declared.form.Content.{Content}
 use Rattle.c_core.specs.declared.form.Content.TheVariants as content
 use Rattle.c_core.specs.Tree.{Core, type_in}
@@ -67,69 +65,3 @@ stored_in structures static constancy (Some type) part = item_stored structures 
 abbrev pub item_rule : List Structure → (static nested : Bool) → Option CType → Part → Ruled Initial
 item_rule structures static nested target part = let c = as_constant structures part in
     ruled (item_demands static nested c target part) (stored_in structures static c target part)
-
--- ---- the parts of an object that a list initializes, in order (6.7.9p17)
-
--- elements of one type, or members, of a union one alone
-pub data Parts : Type 0 where
-  Elements : (of : CType) (size : ℕ) (count : Option ℕ) → Parts
-  Members : (is_union : Bool) (members : List TypedMember) → Parts
-
--- a part: its type, and the byte where it begins
-pub record Target : Type 0 where
-  pub type : CType
-  pub at : ℕ
-
-abbrev pub is_counted : Option ℕ → ℕ → Bool
-is_counted None index = true
-is_counted (Some count) index = nat_lt index count
-
-abbrev pub member_target : ℕ → TypedMember → Target
-member_target at member = record { type = member.of; at = at + member.at }
-
--- the part of that number of an object that begins at a byte
-abbrev pub part_at : Parts → ℕ → ℕ → Option Target
-part_at (Elements of size count) at index =
-    if is_counted count index then Some (record { type = of; at = at + index * size }) else None
-part_at (Members is_union members) at index = option_map (member_target at) (slice_get members index)
-
--- the number of the part behind one; behind a member of a union none follows
-abbrev pub next_part : Parts → ℕ → ℕ
-next_part (Elements of size count) index = index + 1
-next_part (Members true members) index = length members
-next_part (Members false members) index = index + 1
-
--- ---- designators (6.7.9p6, p7)
-
--- an index by the value of its expression, where that is an integer constant expression
-abbrev pub is_index : Option ℕ → Option ℤ → Bool
-is_index count None = false
-is_index count (Some n) = int_le (pos 0) n && is_counted count (unsigned_abs n)
-
-abbrev pub index_demands : Parts → Option ℤ → List Demand
-index_demands (Elements of size count) value = (17, is_index count value) ∷ []
-index_demands (Members is_union members) value = (17, false) ∷ []
-
-abbrev pub index_of : Option ℤ → ℕ
-index_of None = 0
-index_of (Some n) = unsigned_abs n
-
-abbrev pub index_rule : Parts → Option ℤ → Ruled ℕ
-index_rule parts value = ruled (index_demands parts value) (index_of value)
-
--- the number of the member of a name
-abbrev pub member_number : List TypedMember → List ℕ → Option ℕ
-member_number [] name = None
-member_number (first ∷ rest) name =
-    if bytes_eq first.name name then Some 0 else option_map (λ n. n + 1) (member_number rest name)
-
-abbrev pub number_in : Parts → List ℕ → Option ℕ
-number_in (Elements of size count) name = None
-number_in (Members is_union members) name = member_number members name
-
-abbrev pub or_first : Option ℕ → ℕ
-or_first None = 0
-or_first (Some n) = n
-
-abbrev pub member_rule : Parts → List ℕ → Ruled ℕ
-member_rule parts name = ruled ((17, is_some (number_in parts name)) ∷ []) (or_first (number_in parts name))

@@ -3,5 +3,6 @@ pub mod Addresses
 pub mod Constants
 pub mod Literals
 pub mod Initials
+pub mod Parts
 pub mod Seals
 pub mod Stored

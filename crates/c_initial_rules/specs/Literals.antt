@@ -31,6 +31,11 @@ abbrev pub suits_array : Bool → CType → Bool
 suits_array wide (Array of len) = suits wide of
 suits_array wide other = false
 
+-- the length of an array, if it was not left out
+abbrev pub length_in : CType → Option ℕ
+length_in (Array of len) = len
+length_in (Plain bare quals) = None
+
 -- The units have room, though maybe not the null behind them.
 abbrev pub have_room : Option ℕ → ℕ → Bool
 have_room None units = true

@@ -5,6 +5,7 @@ pub mod addresses;
 pub mod constants;
 pub mod items;
 pub mod literals;
+pub mod parts;
 pub mod seals;
 #[cfg(test)]
 mod tests;

@@ -61,6 +61,21 @@ pub fn suits_array(types: &TypeTable, wide: bool, of: TypeId) -> bool
     }
 }
 
+/// The length of an array; none of a type that is no array, or whose length was left out.
+pub fn length_in(types: &TypeTable, of: TypeId) -> Option<u64>
+    requires { IdIn types.now of }
+    ensures { result ≡ spec.length_in (type_of types.now of) }
+{
+    match types.shape(of) {
+        Shape::Array(_, length) => length,
+        Shape::Basic(_) => None,
+        Shape::Pointer(_) => None,
+        Shape::Function(_) => None,
+        Shape::Compound(_) => None,
+        Shape::Enumerated(_) => None,
+    }
+}
+
 /// Whether the null of a literal of so many units is stored in an array of that length (6.7.9p14, p15).
 ///
 /// Constraint 17 where the array has no room for the units.

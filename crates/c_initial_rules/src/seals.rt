@@ -1,6 +1,6 @@
 //! Which bytes of an object are const.
 
-ghost use Rattle.std.specs.Prelude.{◌≡◌, ◌++◌, IfOk, OnOk};
+ghost use Rattle.std.specs.Prelude.{◌≡◌, ◌++◌, [], IfOk, OnOk};
 ghost use Rattle.c_types.specs.CType.{type_of};
 ghost use Rattle.c_types.specs.Compounds.{IsCompound, number_in};
 ghost use Rattle.c_types.specs.Structures.{structures_of};
@@ -138,4 +138,25 @@ pub fn const_parts(types: &TypeTable, of: TypeId) -> Result<Vec<Range>, AllocErr
     ensures { IfOk result (λ all. all.items ≡ spec.const_parts (type_of types.now of) (structures_of types.now)) }
 {
     type_seals(types, MOST_NESTED, of)
+}
+
+// The ranges in rising place; where places are equal they keep their order.
+fn put_in_place(all: &mut Vec<Range>) -> Result<(), AllocError>
+    ensures { OnOk result (all.new.items ≡ spec.put_in_place [] all.old.items) }
+{
+    all.sort_by_key(|range| range.at)?;
+    Ok(())
+}
+
+/// The const parts of an object of a type in the order in which they are sealed: in rising place, and in order of
+/// declaration where places are equal, which they are in unions (6.7.2.1p16, 6.7.3p6).
+///
+/// What `const_parts` says of want of memory holds here too.
+pub fn seals(types: &TypeTable, of: TypeId) -> Result<Vec<Range>, AllocError>
+    requires { IdIn types.now of }
+    ensures { IfOk result (λ all. all.items ≡ spec.seals_of (type_of types.now of) (structures_of types.now)) }
+{
+    let mut all = const_parts(types, of)?;
+    put_in_place(&mut all)?;
+    Ok(all)
 }

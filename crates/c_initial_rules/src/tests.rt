@@ -1,7 +1,7 @@
 //! Each call that makes a list, with memory.
 
 use crate::literals::literal_bytes;
-use crate::seals::const_parts;
+use crate::seals::{const_parts, seals};
 use c_core::Range;
 use c_lexer::Units;
 use c_types::{Basic, Quals, TypeTable};
@@ -32,7 +32,7 @@ fn a_const_object_is_one_part(rt: HostRuntime) -> Result<(), Fail> {
     let plain = types.basic(Basic::Int);
     let constant = types.qualified(plain, quals)?;
     assert!(rt; const_parts(&types, plain)?.is_empty());
-    let parts = const_parts(&types, constant)?;
+    let parts = seals(&types, constant)?;
     assert_eq!(rt; parts.as_slice(), [Range { at: 0, len: 4 }].as_slice());
     Ok(())
 }
