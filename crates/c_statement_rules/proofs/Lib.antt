@@ -1,0 +1,3 @@
+pub mod Narrowing
+pub mod Adding
+pub mod Examples
