@@ -1,0 +1,3 @@
+mod ListPlaces
+mod StackNumbers
+mod MoreStacks
