@@ -1,0 +1,2 @@
+//! The walk over declarations (6.7).
+#![tactic(auto)]
