@@ -1,2 +1,0 @@
-//! The walk over declarations (6.7).
-#![tactic(auto)]

@@ -1,9 +1,0 @@
-pub mod Designators
-pub mod Examples
-pub mod Expressions
-pub mod ItemWalk
-pub mod Items
-pub mod Kept
-pub mod Lists
-pub mod LiteralObjects
-pub mod Size

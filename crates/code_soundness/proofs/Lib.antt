@@ -1,5 +1,0 @@
-mod EndPlaces
-mod Starts
-mod Cases
-mod Standing
-mod Taken

@@ -1,3 +1,0 @@
--- The definitions, in the order in which they are read.
-pub mod Effects
-pub mod Passed

@@ -1,5 +1,0 @@
-//! Whether code is valid, and the instruction that is blamed where it isn't.
-#![tactic(auto)]
-
-mod effects;
-mod passing;
