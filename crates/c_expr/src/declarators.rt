@@ -101,7 +101,7 @@ fn derived(
 
 /// The length of an array; none where it is left out (6.7.6.2).
 #[cycle(typing)]
-fn array_length(
+pub fn array_length(
     scopes: &mut Scopes,
     types: &mut TypeTable,
     expr: &Option<Box<Expr>>,

@@ -11,7 +11,7 @@ pub mod expression;
 mod members;
 mod node;
 pub mod operators;
-mod parameter_lists;
+pub mod parameter_lists;
 pub mod primary;
 pub mod specifiers;
 pub mod type_names;

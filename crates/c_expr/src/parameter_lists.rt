@@ -38,7 +38,7 @@ pub struct NumberedSite {
 
 /// The types of parameters, adjusted; their scope is entered and left.
 #[cycle(typing)]
-pub(crate) fn parameters_typed(
+pub fn parameters_typed(
     scopes: &mut Scopes,
     types: &mut TypeTable,
     site: FunctionSite,

@@ -2,7 +2,7 @@
 
 ghost use Rattle.std.specs.Prelude.{◌≡◌, ◌≤◌, ◌∷◌, [], length, drop, IfOk, OnOk, option_copied};
 ghost use Rattle.c_scopes.specs.Scopes.{no_names, here_in, entry_in, bound_in, found, found_here, bound, is_tag};
-ghost use Rattle.c_scopes.specs.Inner.{scope_of, outwards};
+ghost use Rattle.c_scopes.specs.Inner.{outwards};
 
 use crate::binding::Binding;
 use critical_table::Name;
@@ -10,13 +10,23 @@ use std::alloc::{AllocError, Global};
 use std::collections::BTreeMap;
 use std::marker::Model;
 
-// The names of one scope, in two name spaces (6.2.3). The maps are ordered: the library's hash maps have the same seed
-// in each run, so a hostile unit could choose names that collide there, and each look-up would take as long as there
-// are names.
+/// The names of one scope, in two name spaces (6.2.3). Contracts see their bindings.
+// The maps are ordered: the library's hash maps have the same seed in each run, so a hostile unit could choose names
+// that collide there, and each look-up would take as long as there are names.
 #[derive(Drop)]
-pub(crate) struct Scope {
+pub struct Scope {
     names: BTreeMap<Name, Binding>,
     tags: BTreeMap<Name, Binding>,
+}
+
+impl Model for Scope {
+    ghost use Rattle.c_scopes.specs.Scopes.{Scope as Bindings};
+
+    ghost Value = { Bindings };
+
+    ghost use Rattle.c_scopes.specs.Inner.{scope_of};
+
+    ghost view = { scope_of };
 }
 
 /// Scopes, one inside another (6.2.1p4). Contracts see a list of them, the innermost first, each with its bindings.
@@ -40,7 +50,7 @@ impl Model for Scopes {
 
 impl Scope {
     fn new(alloc: Global) -> Scope
-        ensures { scope_of result ≡ no_names }
+        ensures { result ≡ no_names }
     {
         Scope {
             names: BTreeMap::new(alloc),
@@ -50,7 +60,7 @@ impl Scope {
 
     // The binding of the name, among the tags or among the other names.
     fn get(&self, name: &Name, tag: bool) -> Option<&Binding>
-        ensures { option_copied result ≡ here_in (scope_of self.now) tag name.now }
+        ensures { option_copied result ≡ here_in self.now tag name.now }
     {
         if tag {
             self.tags.get(name)
@@ -61,7 +71,7 @@ impl Scope {
 
     // Binds the name, in place of a binding that it has in the same name space.
     fn set(&mut self, name: Name, binding: Binding) -> Result<(), AllocError>
-        ensures { OnOk result (scope_of self.new ≡ bound_in (scope_of self.old) (is_tag binding) name binding) }
+        ensures { OnOk result (self.new ≡ bound_in self.old (is_tag binding) name binding) }
     {
         if binding.is_tag() {
             put(&mut self.tags, name, binding)?;
@@ -99,9 +109,7 @@ impl Scopes {
         ensures opens { OnOk result (self.new ≡ no_names ∷ self.old) }
         ensures inner { OnOk result (2 ≤ length self.new) }
     {
-        let inner = std::mem::replace(&mut self.inner, Scope::new(self.alloc));
-        self.outer.push(inner)?;
-        Ok(())
+        self.enter_again(Scope::new(self.alloc))
     }
 
     /// Closes the innermost scope.
@@ -112,6 +120,27 @@ impl Scopes {
         if let Some(scope) = self.outer.pop() {
             self.inner = scope;
         }
+    }
+
+    /// Closes the innermost scope and hands it out, to be entered again.
+    pub fn close(&mut self) -> Scope
+        requires { 2 ≤ length self.old }
+        ensures { self.old ≡ result ∷ self.new }
+    {
+        match self.outer.pop() {
+            Some(scope) => std::mem::replace(&mut self.inner, scope),
+            None => Scope::new(self.alloc),
+        }
+    }
+
+    /// Opens a scope that was closed, as the innermost one, which can be left again.
+    pub fn enter_again(&mut self, scope: Scope) -> Result<(), AllocError>
+        ensures opens { OnOk result (self.new ≡ scope ∷ self.old) }
+        ensures inner { OnOk result (2 ≤ length self.new) }
+    {
+        let inner = std::mem::replace(&mut self.inner, scope);
+        self.outer.push(inner)?;
+        Ok(())
     }
 
     /// Binds a name in the innermost scope, in place of a binding that it has there in the same name space.

@@ -1,5 +1,5 @@
 -- What the rows of a program answer, by the meaning of their library.
-use Rattle.std.specs.Prelude.{◌≡◌, ℕ, ◌≤◌, Bool, true, false, List, ◌++◌, ◌↔◌, Option, Some, None}
+use Rattle.std.specs.Prelude.{◌≡◌, ℕ, ◌≤◌, Bool, true, false, ◌||◌, List, ◌++◌, ◌↔◌, Option, Some, None}
 use Rattle.std.specs.Option.{option_map_or}
 use Rattle.acc_io.specs.Cause.{FaultCounted}
 use Rattle.critical_table.specs.declared.ended.Ended.TheVariants as ended
@@ -22,6 +22,9 @@ is_read_fault _ = false
 abbrev pub is_write_fault : LibStep → Bool
 is_write_fault (step.End ended.WriteFault) = true
 is_write_fault _ = false
+
+abbrev pub is_fault : LibStep → Bool
+is_fault step = is_read_fault step || is_write_fault step
 
 -- The count of a source or of sinks: it rose where the answer is a fault of it, and else it is as before. It never
 -- falls.
