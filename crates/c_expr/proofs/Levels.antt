@@ -39,7 +39,7 @@ Innermost [] [] = Unit {0}
 Innermost (inner ∷ outer) (other ∷ rest) = rest ≡ outer
 Innermost scopes others = ⊥
 
-same_innermost : {B : Type 0} (scopes : List B) → Innermost scopes scopes
+pub same_innermost : {B : Type 0} (scopes : List B) → Innermost scopes scopes
 same_innermost [] = tt
 same_innermost (inner ∷ outer) = refl
 
@@ -69,37 +69,37 @@ keeps_from : {A : Type 0} (env after : Env) (answer : Answer A) → Innermost en
 keeps_from env after (Gives a last) e h = then_innermost env.scopes after.scopes last.scopes e h
 keeps_from env after (Refuses number at) e h = tt
 
-then_keeps : {A B : Type 0} (env : Env) (answer : Answer A) (next : A → Env → Answer B) → Keeps env answer
+pub then_keeps : {A B : Type 0} (env : Env) (answer : Answer A) (next : A → Env → Answer B) → Keeps env answer
     → ((a : A) (after : Env) → Keeps after (next a after)) → Keeps env (and_then answer next)
 unfolding and_then
 then_keeps env (Gives a after) next h rest = keeps_from env after (next a after) h (rest a after)
 then_keeps env (Refuses number at) next h rest = tt
 
-settle_keeps : {A : Type 0} (at : Pos) (env : Env) (rule : Ruled A) → Keeps env (settle at env rule)
+pub settle_keeps : {A : Type 0} (at : Pos) (env : Env) (rule : Ruled A) → Keeps env (settle at env rule)
 unfolding settle
 settle_keeps at env (Fits a) = same_innermost env.scopes
 settle_keeps at env (Breaks number) = tt
 
 -- a rule, and what is given behind it
-settle_gives : {A B : Type 0} (at : Pos) (env : Env) (rule : Ruled A) (f : A → B)
+pub settle_gives : {A B : Type 0} (at : Pos) (env : Env) (rule : Ruled A) (f : A → B)
     → Keeps env (and_then (settle at env rule) (λ a after. Gives (f a) after))
 settle_gives at env rule f =
     then_keeps env (settle at env rule) _ (settle_keeps at env rule) (λ a after. same_innermost after.scopes)
 
 -- ---- names
 
-bound_keeps : {B : Type 0} (scopes : List (Names B)) (tag : Bool) (name : List ℕ) (binding : B)
+pub bound_keeps : {B : Type 0} (scopes : List (Names B)) (tag : Bool) (name : List ℕ) (binding : B)
     → Innermost scopes (bound scopes tag name binding)
 bound_keeps [] tag name binding = tt
 bound_keeps (scope ∷ outer) tag name binding = refl
 
 -- ---- operands by their use
 
-used_keeps : (at : Pos) (env : Env) (part : Answer Part) → Keeps env part → Keeps env (as_used at part)
+pub used_keeps : (at : Pos) (env : Env) (part : Answer Part) → Keeps env part → Keeps env (as_used at part)
 unfolding as_used
 used_keeps at env part h = then_keeps env part _ h (λ p after. settle_keeps at after _)
 
-value_keeps : (at : Pos) (env : Env) (part : Answer Part) → Keeps env part → Keeps env (as_value at part)
+pub value_keeps : (at : Pos) (env : Env) (part : Answer Part) → Keeps env part → Keeps env (as_value at part)
 unfolding as_value
 value_keeps at env part h = then_keeps env part _ h (λ p after. settle_keeps at after _)
 
@@ -218,7 +218,7 @@ type_on_keeps : (before : Before) (type : Answer CType) (env : Env) → Keeps en
 unfolding type_on
 type_on_keeps before type env h = then_keeps env type _ h (λ of after. same_innermost after.scopes)
 
-specifiers_keep : (all : Specifiers) (answer : Answer Before) (env : Env) → Keeps env answer
+pub specifiers_keep : (all : Specifiers) (answer : Answer Before) (env : Env) → Keeps env answer
     → Keeps env (of_specifiers all answer)
 unfolding of_specifiers
 specifiers_keep all answer env h = then_keeps env answer _ h (λ last after. same_innermost after.scopes)
@@ -231,7 +231,7 @@ derived_type_keeps name_at around base (first ∷ outer) env =
     then_keeps env (derived_type name_at around base outer env) _
     (derived_type_keeps name_at around base outer env) (λ type after. settle_keeps _ after _)
 
-derivations_keep : (name_at : Option Pos) (around : Pos) (base : CType) (answer : Answer (List Derived)) (env : Env)
+pub derivations_keep : (name_at : Option Pos) (around : Pos) (base : CType) (answer : Answer (List Derived)) (env : Env)
     → Keeps env answer → Keeps env (of_derivations name_at around base answer)
 unfolding of_derivations
 derivations_keep name_at around base answer env h =
@@ -269,7 +269,7 @@ outer_innermost : {B : Type 0} (inner : B) (scopes others : List B) → Innermos
 outer_innermost inner scopes [] h = absurd h
 outer_innermost inner scopes (other ∷ rest) h = subst (Innermost scopes) (sym h) (same_innermost scopes)
 
-scope_keeps : {A B : Type 0} (env : Env) (answer : Answer A) (f : A → Env → B) → Keeps (scope_entered env) answer
+pub scope_keeps : {A B : Type 0} (env : Env) (answer : Answer A) (f : A → Env → B) → Keeps (scope_entered env) answer
     → Keeps env (and_then answer (λ a after. Gives (f a after) (scope_left after)))
 unfolding and_then
 scope_keeps env (Gives a after) f h = outer_innermost no_names env.scopes after.scopes h
@@ -280,7 +280,7 @@ scope_keeps env (Refuses number at) f h = tt
 mutual
   unfolding walk.typed
 
-  typed_keeps : (used : Bool) (e : Expr) (env : Env) → Keeps env (walk.typed used e env)
+  pub typed_keeps : (used : Bool) (e : Expr) (env : Env) → Keeps env (walk.typed used e env)
   typed_keeps used (tree.Const at constant) env = settle_keeps at env _
   typed_keeps used (tree.Id at x) env = settle_keeps at env _
   typed_keeps used (tree.Text at text) env = settle_keeps at env _
@@ -337,7 +337,7 @@ mutual
       (each_keeps _ _ specifiers _ env)) (λ base after.
       derivations_keep _ around base (walk.derived _ declarator after) after (derived_keeps _ declarator after))
 
-  each_keeps : (context : Context) (whole : Outline) (all : Specifiers) (before : Before) (env : Env)
+  pub each_keeps : (context : Context) (whole : Outline) (all : Specifiers) (before : Before) (env : Env)
       → Keeps env (walk.each_specified context whole all before env)
   each_keeps context whole tree.NoSpecifier before env = same_innermost env.scopes
   each_keeps context whole (tree.MoreSpecifiers first rest) before env =
@@ -397,7 +397,7 @@ mutual
       then_keeps env (as_value _ (walk.typed true given env)) _
       (value_keeps _ env (walk.typed true given env) (typed_keeps true given env)) (λ v after. settle_keeps _ after _)
 
-  derived_keeps : (around : Around) (declarator : Declarator) (env : Env)
+  pub derived_keeps : (around : Around) (declarator : Declarator) (env : Env)
       → Keeps env (walk.derived around declarator env)
   derived_keeps around tree.Omitted env = same_innermost env.scopes
   derived_keeps around (tree.Name pos x) env = same_innermost env.scopes
