@@ -74,8 +74,8 @@ pub struct ParameterSite {
     pub of: TypeId,
 }
 
-// `void` that stands for no parameters (6.7.6.3p10).
-fn is_none(types: &TypeTable, site: ParameterSite, parameter: &Parameter) -> bool
+/// `void` that stands for no parameters (6.7.6.3p10).
+pub fn is_none(types: &TypeTable, site: ParameterSite, parameter: &Parameter) -> bool
     requires { IdIn types.now site.of }
     ensures { result ≡ spec.is_none site.alone (specifiers_of parameter.now.specifiers.items)
         (declarator_of parameter.now.declarator) (type_of types.now site.of) }
@@ -86,7 +86,8 @@ fn is_none(types: &TypeTable, site: ParameterSite, parameter: &Parameter) -> boo
         && is_plain_void(types, site.of)
 }
 
-fn parameter_object(of: TypeId, register: bool, number: u32) -> Binding
+/// What the name of a parameter stands for: the object in the slot of its number.
+pub fn parameter_object(of: TypeId, register: bool, number: u32) -> Binding
     ensures named { (types : Types) → named_of types result ≡ spec.parameter_object (type_of types of) register number }
     ensures is_in { id_in result ≡ of }
 {
