@@ -1,0 +1,10 @@
+pub mod Designators
+pub mod Examples
+pub mod Expressions
+pub mod ItemWalk
+pub mod Items
+pub mod Kept
+pub mod Levels
+pub mod Lists
+pub mod LiteralObjects
+pub mod Size
