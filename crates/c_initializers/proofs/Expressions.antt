@@ -85,9 +85,9 @@ module _ (static nested : Bool) (object : Option p.Target) (e : Expr) (old : Typ
         → FilledIn new filled → Given whole (filled_of new filled) (λ t. FilledIn t filled) old after new
     value_given new initial filled follows is is_in =
         let on = rule_makes rule (place_of e) store whole old mid after (initial_of new initial) (λ t. InitialIn t initial) new
-            typed_part
-            (subst (λ (t : Option CType). Follows (item_rule (structures_of mid) static nested t (part_of mid operand))
-            (initial_of new initial) (λ t. InitialIn t initial) mid new) known follows) in
+        typed_part
+        (subst (λ (t : Option CType). Follows (item_rule (structures_of mid) static nested t (part_of mid operand))
+        (initial_of new initial) (λ t. InitialIn t initial) mid new) known follows) in
         record {
           is = on.is ∙ ap (λ x. Gives x (env_of after new)) (sym is);
           is_in = is_in;

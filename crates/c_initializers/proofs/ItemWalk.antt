@@ -101,9 +101,9 @@ pub listing_all : (static : Bool) (object : Target) (list : List m.Item) (i : �
 listing_all static object list i h old types before scopes found filled left is is_in =
     let all = each_item static object (items (map item_of list)) none_listed (env_of before old) in
     let given : all ≡ Gives (listed_of types found) (env_of scopes types) = left.on.is
-        ∙ ap (λ (rest : Items). each_item static object rest (listed_of types found) (env_of scopes types))
-        (left_none items item_of list i h)
-        ∙ ends static object (listed_of types found) (env_of scopes types) in
+    ∙ ap (λ (rest : Items). each_item static object rest (listed_of types found) (env_of scopes types))
+    (left_none items item_of list i h)
+    ∙ ends static object (listed_of types found) (env_of scopes types) in
     record {
       is = then_given all (listed_of types found) (env_of scopes types) (λ all env. Gives (all_filled all) env) given
           ∙ ap (λ x. Gives x (env_of scopes types)) (sym is);

@@ -82,9 +82,9 @@ module _ (static : Bool) (object : p.Target) (item : Item) (before : l.Listed) (
         → ListedIn new more → Given whole (listed_of new more) (λ t. ListedIn t more) old last new
     item_given new last filled more before_in item_is is is_in =
         let on = part_given filling (store index) whole old mid after (filled_of new filled) (λ t. FilledIn t filled) last
-            new numbered
-            (given_as filling (inner (object_of mid part) (env_of after mid)) (filled_of new filled)
-            (λ t. FilledIn t filled) mid last new known item_is) in
+        new numbered
+        (given_as filling (inner (object_of mid part) (env_of after mid)) (filled_of new filled)
+        (λ t. FilledIn t filled) mid last new known item_is) in
         record {
           is = on.is ∙ (λ k. Gives (with_item (structures_of new) (sym (type_kept old new on.grown object.of object_in) k)
               (sym (listed_kept old new on.grown before before_in) k) item index (filled_of new filled)) (env_of last new))

@@ -77,7 +77,7 @@ module _ (object : Option p.Target) (at : Pos) (text : Literals) (old : Types) (
         → FilledIn mid filled → Given whole (filled_of mid filled) (λ t. FilledIn t filled) old scopes mid
     literal_given null filled fits is is_in =
         let on = rule_fits rule at store whole old mid scopes null behind_literal
-            (ap (λ (n : Option ℕ). literal_fit_rule n units) (sym known) ∙ fits) in
+        (ap (λ (n : Option ℕ). literal_fit_rule n units) (sym known) ∙ fits) in
         record {
           is = on.is ∙ ap (λ x. Gives x (env_of scopes mid)) (sym is);
           is_in = is_in;

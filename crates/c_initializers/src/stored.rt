@@ -129,11 +129,7 @@ fn add_literals(
 }
 
 /// One more item behind others.
-pub fn add_item(
-    types: &TypeTable,
-    all: &mut Listed,
-    item: Numbered<'_>,
-) -> Result<(), AllocError>
+pub fn add_item(types: &TypeTable, all: &mut Listed, item: Numbered<'_>) -> Result<(), AllocError>
     requires of { IdIn types.now item.of }
     requires all { ListedIn types.now all.old }
     requires filled { FilledIn types.now item.filled }

@@ -56,7 +56,7 @@ returns c scopes here =
     let none : c.new.result.items ≡ [] = cc in
     let units : c.in-Some.units ≡ units_among text.pieces = c.in-Some.ensures in
     let bytes : c.in_ok-bytes.bytes.items ≡ literal_bytes text.wide text.pieces null = c.in_ok-bytes.ensures
-        ∙ ap (λ (pieces : List (List ℤ)). literal_bytes text.wide pieces null) c.as_slice.ensures.value in
+    ∙ ap (λ (pieces : List (List ℤ)). literal_bytes text.wide pieces null) c.as_slice.ensures.value in
     literal_given c.args.object c.args.at text c.args.types.now scopes here new made c.requires
     (subst (λ (units : ℕ). Follows (literal_rule c.args.at text.wide units) (part_of new made) (λ t. PartIn t made)
     c.args.types.now new) units c.in_ok-made.ensures) c.length_of.result c.length_of.ensures null
