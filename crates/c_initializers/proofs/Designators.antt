@@ -1,5 +1,5 @@
 -- The index of a designator: its expression, its value, and the element that it is for.
-use Rattle.std.proofs.Common.{◌≡◌, ◌∙◌, ap, sym, refl, subst, List, Bool, true, false, cond, ℕ, ℤ}
+use Rattle.std.proofs.Common.{◌≡◌, ◌∙◌, ap, sym, subst, List, Bool, true, false, cond, ℕ, ℤ}
 use Rattle.std.specs.Prelude.{Option, Result, Ok, Err}
 use Rattle.critical_table.specs.declared.pos.Pos.{Pos}
 use Rattle.c_types.specs.declared.shape.TypeId.{TypeId}
@@ -7,7 +7,6 @@ use Rattle.c_types.specs.CType.{CType, type_of}
 use Rattle.c_types.specs.Types.{Types}
 use Rattle.c_types.proofs.Kept.{grows_own}
 use Rattle.c_core.specs.declared.fault.TypeFault.{TypeFault}
-use Rattle.c_core.specs.declared.fault.TypeFault.TheVariants as fault
 use Rattle.c_core.specs.Constant.{constant_of}
 use Rattle.c_core.specs.Ids.{IdIn}
 use Rattle.c_core.proofs.Kept.{type_kept}
@@ -20,7 +19,7 @@ use Rattle.c_conversions.specs.declared.operand.Operand.{Operand}
 use Rattle.c_conversions.specs.Parts.{Part, PartIn, part_of}
 use Rattle.c_conversions.specs.Versions.{is_array}
 use Rattle.c_type_rules.specs.Enumerators.{given_value_rule}
-use Rattle.c_type_parts.specs.Answers.{Answer, Gives, Refuses, and_then, settle}
+use Rattle.c_type_parts.specs.Answers.{Answer, Refuses, and_then, settle}
 use Rattle.c_type_parts.specs.Clauses.{Given, Refused}
 use Rattle.c_type_parts.specs.Shapes.{place_of}
 use Rattle.c_type_parts.proofs.Onward.{Onward, part_given, part_refused, rule_breaks, rule_fits}

@@ -7,7 +7,7 @@ use Rattle.critical_table.specs.declared.pos.Pos.{Pos}
 use Rattle.c_types.specs.declared.basic.Basic.TheVariants as b
 use Rattle.c_types.specs.CType.{CType, Array, Plain, Compound, no_quals}
 use Rattle.c_types.specs.Compatible.{agree, bare_agree}
-use Rattle.c_types.specs.Structures.{Structure, TypedMember}
+use Rattle.c_types.specs.Structures.{TypedMember}
 use Rattle.c_core.specs.declared.form.Content.TheVariants as content
 use Rattle.c_core.specs.declared.form.Scalar.TheVariants as scalar
 use Rattle.c_core.specs.Tree.{Core, At}

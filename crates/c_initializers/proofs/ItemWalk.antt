@@ -21,7 +21,7 @@ use Rattle.c_initializers.specs.declared.stored.Listed as l
 use Rattle.c_initializers.specs.Clauses.{FilledIn, ListedIn, filled_of, listed_of}
 use Rattle.c_initializers.specs.Initializing.{each_item}
 use Rattle.c_initializers.specs.Lists.{in_order, one_of}
-use Rattle.c_initializers.specs.Stored.{Filled, Listed, all_filled, none_listed}
+use Rattle.c_initializers.specs.Stored.{Listed, all_filled, none_listed}
 use Rattle.c_initializers.proofs.Kept.{target_kept}
 
 -- Items were walked, and this is left of the walk over all.

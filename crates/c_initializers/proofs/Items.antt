@@ -1,7 +1,6 @@
 -- One item: the number of its part, the part, and what it stores there.
-use Rattle.std.proofs.Common.{◌≡◌, ◌∙◌, ap, sym, refl, subst, List, Bool, ℕ}
+use Rattle.std.proofs.Common.{◌≡◌, ◌∙◌, ap, sym, refl, List, Bool, ℕ}
 use Rattle.std.specs.Prelude.{Option}
-use Rattle.c_types.specs.declared.shape.TypeId.{TypeId}
 use Rattle.c_types.specs.CType.{CType, type_of}
 use Rattle.c_types.specs.Structures.{structures_of}
 use Rattle.c_types.specs.Types.{Types}
@@ -19,11 +18,11 @@ use Rattle.c_initial_rules.specs.declared.parts.Target as p
 use Rattle.c_initial_rules.specs.Parts.{Target, TargetIn, part_of, target_of}
 use Rattle.c_initializers.specs.declared.stored.Filled as f
 use Rattle.c_initializers.specs.declared.stored.Listed as l
-use Rattle.c_initializers.specs.Clauses.{FilledIn, ListedIn, ObjectIn, filled_of, listed_of, object_of}
+use Rattle.c_initializers.specs.Clauses.{FilledIn, ListedIn, filled_of, listed_of, object_of}
 use Rattle.c_initializers.specs.Initializing.{item_filled, item_index, one_item}
 use Rattle.c_initializers.specs.Lists.{one_of}
 use Rattle.c_initializers.specs.Stored.{Filled, Listed, with_item}
-use Rattle.c_initializers.proofs.Kept.{all_in_kept, listed_kept, target_kept}
+use Rattle.c_initializers.proofs.Kept.{listed_kept}
 
 module _ (static : Bool) (object : p.Target) (item : Item) (before : l.Listed) (old : Types) (scopes : List Scope)
     (here : ScopesIn old scopes) where

@@ -1,5 +1,5 @@
 -- What was stored stays what it is as a table grows.
-use Rattle.std.proofs.Common.{◌≡◌, List, [], ◌∷◌, ◌++◌, map, ap, refl, ℕ}
+use Rattle.std.proofs.Common.{◌≡◌, List, [], ◌∷◌, ◌++◌, map, ap, refl}
 use Rattle.std.specs.Prelude.{Option, Some, None}
 use Rattle.c_types.specs.Making.{Grows}
 use Rattle.c_types.specs.Types.{Types}

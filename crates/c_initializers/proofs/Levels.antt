@@ -1,5 +1,5 @@
 -- The walk over initializers binds names in the innermost scope alone.
-use Rattle.std.proofs.Common.{◌≡◌, Bool, true, false, cond, List, ℕ}
+use Rattle.std.proofs.Common.{Bool, true, false, cond, ℕ}
 use Rattle.std.specs.Prelude.{Option, Some, None}
 use Rattle.critical_table.specs.declared.pos.Pos.{Pos}
 use Rattle.c_types.specs.CType.{CType}

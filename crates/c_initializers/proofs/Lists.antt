@@ -1,19 +1,18 @@
 -- Lists by their parts: what each branch of the program answers of them.
-use Rattle.std.proofs.Common.{◌≡◌, ◌∙◌, ◌+◌, ◌<◌, ℕ, List, [], ◌∷◌, Bool, true, false, cond, length, get_or, map, ap, refl}
+use Rattle.std.proofs.Common.{◌≡◌, List, [], ◌∷◌, Bool, true, false, cond, length, get_or, map, ap, refl}
 use Rattle.std.proofs.Common.{arith, sym}
 use Rattle.std.specs.Prelude.{Option, Some, None}
 use Rattle.critical_table.specs.declared.pos.Pos.{Pos}
-use Rattle.c_types.specs.CType.{CType}
 use Rattle.c_syntax.specs.declared.initializer.Item as m
 use Rattle.c_syntax.specs.Tree.{Expr}
-use Rattle.c_syntax.specs.TreeUnit.{Item, Items, NoItem, MoreItems}
+use Rattle.c_syntax.specs.TreeUnit.{Items}
 use Rattle.c_syntax.specs.ViewUnit.{item_of, items}
 use Rattle.c_scopes.specs.Env.{Env}
-use Rattle.c_type_parts.specs.Answers.{Answer, Gives, Refuses, and_then}
+use Rattle.c_type_parts.specs.Answers.{Refuses}
 use Rattle.c_initial_rules.specs.Parts.{Target, has_parts}
 use Rattle.c_initializers.specs.Initializing.{each_item, for_scalar, of_braces, of_list, of_single, scalar_item}
 use Rattle.c_initializers.specs.Lists.{in_order, listed, of_parts}
-use Rattle.c_initializers.specs.Stored.{Filled, in_braces, literal_item, none_listed}
+use Rattle.c_initializers.specs.Stored.{in_braces, literal_item, none_listed}
 
 -- ---- a list of no object, of one with parts, of a scalar
 

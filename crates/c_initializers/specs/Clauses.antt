@@ -1,5 +1,5 @@
 -- What the calls on initializers ensure: they answer what the walk does.
-use Rattle.std.specs.Prelude.{ℕ, List, [], ◌∷◌, map, Option, Some, None, IfSome, Result, option_map}
+use Rattle.std.specs.Prelude.{ℕ, List, [], ◌∷◌, map, Option, IfSome, Result, option_map}
 use Rattle.c_types.specs.Types.{Types}
 use Rattle.c_core.specs.declared.fault.TypeFault.{TypeFault}
 use Rattle.c_core.specs.ViewUnit.{static_of}

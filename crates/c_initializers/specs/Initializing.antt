@@ -1,8 +1,8 @@
 -- The walk over initializers: items in the order of their tokens, each for the next part of its object (6.7.9p17, p19).
 -- It knows no constraint but that a list is for something, and for a scalar of one item.
-use Rattle.std.specs.Prelude.{ℕ, ◌+◌, Bool, true, false, cond, List, [], ◌∷◌, ◌++◌, Option, Some, None}
+use Rattle.std.specs.Prelude.{ℕ, ◌+◌, Bool, true, false, cond, [], Option, Some, None}
 use Rattle.critical_table.specs.declared.pos.Pos.{Pos}
-use Rattle.c_types.specs.CType.{CType, Plain, Array}
+use Rattle.c_types.specs.CType.{CType}
 use Rattle.c_core.specs.Constant.{constant_of}
 use Rattle.c_syntax.specs.Tree.{Expr, Literals}
 use Rattle.c_syntax.specs.TreeUnit.{Initializer, Single, Braces, Item, ForMember, ForIndex, Items, NoItem, MoreItems}

@@ -1,12 +1,10 @@
 -- The index by its expression, where the type is one of an array.
-use Rattle.std.proofs.Common.{◌≡◌, sym, subst, true, false}
-use Rattle.std.specs.Prelude.{Ok, Result, ℤ}
+use Rattle.std.proofs.Common.{◌≡◌, subst, true, false}
+use Rattle.std.specs.Prelude.{Result, ℤ}
 use Rattle.std.proofs.lemmas.Result.{err_from_is_err_and}
 use Rattle.c_core.specs.declared.fault.ConstFault.{ConstFault}
-use Rattle.c_core.specs.Constant.{constant_of}
 use Rattle.c_syntax.specs.View.{expr_of}
 use Rattle.c_types.specs.CType.{type_of}
-use Rattle.c_conversions.specs.Parts.{part_of}
 use Rattle.c_conversions.specs.Versions.{is_array}
 use Rattle.c_scopes.specs.Clauses.{BreaksAt}
 use Rattle.c_scopes.specs.Ruled.{Fits}

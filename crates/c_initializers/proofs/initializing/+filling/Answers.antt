@@ -1,26 +1,24 @@
 -- The goals of the walk over initializers: each call by its parts.
-use Rattle.std.proofs.Common.{◌≡◌, ◌∙◌, ap, sym, refl, subst, map, length, arith, true, false, List, ◌==◌}
-use Rattle.std.specs.Prelude.{Option, Some}
+use Rattle.std.proofs.Common.{◌≡◌, ◌∙◌, ap, sym, refl, map, length, arith, List}
+use Rattle.std.specs.Prelude.{Option}
 use Rattle.std.proofs.lemmas.Result.{err_from_is_err_and}
 use Rattle.c_core.proofs.Kept.{id_in_kept}
 use Rattle.c_syntax.specs.declared.initializer.Item as m
-use Rattle.c_syntax.specs.TreeUnit.{Items}
 use Rattle.c_syntax.specs.ViewUnit.{initializer_of, item_of, items}
 use Rattle.c_syntax.specs.View.{expr_of}
 use Rattle.c_syntax.proofs.SpelledListsUnit.{built_braces}
 use Rattle.c_scopes.specs.Env.{env_of}
-use Rattle.c_type_parts.proofs.Steps.{answers_as, refused_as}
+use Rattle.c_type_parts.proofs.Steps.{answers_as}
 use Rattle.c_initial_rules.specs.declared.parts.Target as target
 use Rattle.c_initial_rules.specs.Parts.{target_of}
-use Rattle.c_initializers.specs.Clauses.{FilledIn, AnswersFilled, filled_of, listed_of, object_of}
-use Rattle.c_initializers.specs.Initializing.{for_scalar, initialized, item_filled, scalar_item}
+use Rattle.c_initializers.specs.Clauses.{FilledIn, filled_of, object_of}
+use Rattle.c_initializers.specs.Initializing.{initialized, item_filled, scalar_item}
 use Rattle.c_initializers.specs.Lists.{listed}
-use Rattle.c_initializers.specs.Stored.{none_listed}
-use Rattle.c_initializers.proofs.ItemWalk.{listing_all, listing_next, listing_none, listing_refused, listing_stopped}
+use Rattle.c_initializers.proofs.ItemWalk.{listing_all, listing_next, listing_refused, listing_stopped}
 use Rattle.c_initializers.proofs.Kept.{all_in_kept}
 use Rattle.c_initializers.proofs.Items.{item_given, item_refused, number_refused}
 use Rattle.c_initializers.proofs.Lists.{alone, for_none, no_literal, not_alone, one_literal, with_parts, without_parts}
-use Rattle.c_initializers.proofs.Size.{size, item_size, items_size, item_smaller}
+use Rattle.c_initializers.proofs.Size.{size, items_size, item_smaller}
 use Rattle.c_initializers.proofs.initializing.+filling.Goals as goal
 
 pub initialized-returns-in-Expression : goal.initialized-returns-in-Expression

@@ -1,5 +1,5 @@
 -- The expression, its rule, and what it stores.
-use Rattle.std.proofs.Common.{◌∙◌, ap, ℕ}
+use Rattle.std.proofs.Common.{◌∙◌}
 use Rattle.std.proofs.lemmas.Result.{err_from_is_err_and}
 use Rattle.c_syntax.specs.View.{expr_of}
 use Rattle.c_scopes.specs.Clauses.{type_or_none}

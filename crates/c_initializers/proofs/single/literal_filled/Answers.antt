@@ -1,7 +1,6 @@
 -- The literal, whether it has room, and its bytes.
-use Rattle.std.proofs.Common.{◌≡◌, ◌∙◌, ap, refl, sym, subst, ℕ, ◌+◌, List, [], ℤ, map}
+use Rattle.std.proofs.Common.{◌≡◌, ◌∙◌, ap, refl, subst, ℕ, ◌+◌, List, [], ℤ, map}
 use Rattle.std.proofs.lemmas.Result.{err_from_is_err_and}
-use Rattle.std.specs.Prelude.{Bool}
 use Rattle.c_core.specs.declared.fault.TypeFault.TheVariants as fault
 use Rattle.c_core.specs.ViewUnit.{static_of}
 use Rattle.c_syntax.specs.View.{literals_of}

@@ -1,6 +1,6 @@
 -- By the literal that the expression is, if it is one for the object.
-use Rattle.std.proofs.Common.{◌≡◌, ◌∙◌, ap, sym, subst}
-use Rattle.std.specs.Prelude.{Option, Some}
+use Rattle.std.proofs.Common.{ap, sym, subst}
+use Rattle.std.specs.Prelude.{Option}
 use Rattle.critical_table.specs.declared.pos.Pos.{Pos}
 use Rattle.c_syntax.specs.Tree.{Literals}
 use Rattle.c_syntax.specs.View.{expr_of, literals_of}
