@@ -117,6 +117,10 @@ abbrev pub head_of : Setting → ℕ → Specifiers → CType → Head
 head_of setting slot specifiers type =
     record { setting = setting; storage = first_storage specifiers; type = type; slot = slot }
 
+-- the literals among the specifiers
+abbrev pub before_declarators : Specifiers → Declared
+before_declarators specifiers = statics_made (literals_in_specifiers specifiers)
+
 -- a declaration in the file scope, a block or a `for`, where this is the first slot that no object has
 unfoldable pub declare : Setting → (slot : ℕ) → Declaration → Env → Answer Declared
 declare setting slot declaration env =
@@ -124,4 +128,4 @@ declare setting slot declaration env =
     (bare_rule declaration.declarators declaration.specifiers)) (λ some env.
     and_then (specified (context_of setting declaration env) declaration.specifiers env) (λ type env.
     each_declared (head_of setting slot declaration.specifiers type) declaration.declarators
-    (statics_made (literals_in_specifiers declaration.specifiers)) env))
+    (before_declarators declaration.specifiers) env))

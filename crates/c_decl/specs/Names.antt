@@ -1,6 +1,6 @@
 -- One declared name: what it stands for from its declarator on, and its initializer, in which it is in scope (6.2.1p7,
 -- 6.7.9).
-use Rattle.std.specs.Prelude.{ℕ, nat_lt, not, List, Option, Some, None, is_some, if◌then◌else◌}
+use Rattle.std.specs.Prelude.{ℕ, nat_lt, Bool, true, false, not, List, Option, Some, None, is_some, if◌then◌else◌}
 use Rattle.critical_table.specs.declared.pos.Pos.{Pos}
 use Rattle.c_types.specs.CType.{CType, Array}
 use Rattle.c_types.specs.Structures.{Structure}
