@@ -129,10 +129,10 @@ module _ (head : h.Head) (whole : Answer Declared) (list : List l.InitDeclarator
     (head_in : IdIn old head.of)
     (left : Declaring whole (each_left (drop i list) (head_of old head)) old scopes mid made) where
   abbrev one : Head → Answer Declared
-  one known = one_declared known (init_declarator_of x) (declared_of mid made) (env_of scopes mid)
+  one seen = one_declared seen (init_declarator_of x) (declared_of mid made) (env_of scopes mid)
 
-  same : one (head_of old head) ≡ one (head_of mid head)
-  same = ap one (sym (head_kept old mid left.on.grown head head_in))
+  known : one (head_of old head) ≡ one (head_of mid head)
+  known = ap one (sym (head_kept old mid left.on.grown head head_in))
 
   -- behind the declarator at this index
   pub declaring_next : (new : Types) (after : List Scope) (more : d.Declared)
@@ -145,7 +145,7 @@ module _ (head : h.Head) (whole : Answer Declared) (list : List l.InitDeclarator
         x within at (declared_of mid made) old mid scopes left.on (declared_of new more) (λ t. DeclaredIn t more) after
         new
         (given_as (one (head_of old head)) (one (head_of mid head)) (declared_of new more) (λ t. DeclaredIn t more) mid
-        after new same given);
+        after new known given);
     is_in = given.is_in;
   }
 
@@ -156,7 +156,7 @@ module _ (head : h.Head) (whole : Answer Declared) (list : List l.InitDeclarator
       (λ rest before env. each_declared (head_of old head) rest before env)
       (λ first before env. one_declared (head_of old head) first before env) (goes_on (head_of old head)) whole list i x
       within at (declared_of mid made) old mid scopes left.on fault
-      (refused_as (one (head_of old head)) (one (head_of mid head)) fault same refused)
+      (refused_as (one (head_of old head)) (one (head_of mid head)) fault known refused)
 
 -- all of them
 pub declaring_all : (head : Head) (whole : Answer Declared) (list : List l.InitDeclarator) (i : ℕ) → length list ≤ i

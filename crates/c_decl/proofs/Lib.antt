@@ -5,3 +5,4 @@ pub mod Kept
 pub mod Initialized
 pub mod DeclaredName
 pub mod Declarators
+pub mod Specified
