@@ -81,7 +81,7 @@ module _ (head : h.Head) (first : InitDeclarator) (before : d.Declared) (old : T
         → DeclaredIn new made → Given whole (declared_of new made) (λ t. DeclaredIn t made) old last new
     declarator_given new last more made before_in named is is_in =
         let on = part_given naming store whole old mid after (declared_of new more) (λ t. DeclaredIn t more) last new
-            typed (given_as naming called (declared_of new more) (λ t. DeclaredIn t more) mid last new same named) in
+        typed (given_as naming called (declared_of new more) (λ t. DeclaredIn t more) mid last new same named) in
         record {
           is = on.is
               ∙ ap (λ (all : Declared). Gives (and_made (and_made all

@@ -73,7 +73,11 @@ fn is_typedef(storage: Option<Storage>) -> bool
 /// What stands around a declarator: the function next to its name may have `...` where no type is named.
 pub fn around(head: Head) -> Around
     ensures { (type : CType) → result ≡ spec.around (record {
-        setting = head.setting; storage = head.storage; type = type; slot = head.slot }) }
+      setting = head.setting;
+      storage = head.storage;
+      type = type;
+      slot = head.slot;
+    }) }
 {
     Around {
         at: Pos { line: 1, column: 1 },

@@ -66,7 +66,11 @@ fn store_statement(
     let action = match placed.initial {
         Initial::Valued(content, core) => CoreAction::Initialize(spot.slot, byte, content, core),
         Initial::Spelled(bytes) => CoreAction::InitializeBytes(spot.slot, byte, bytes),
-        Initial::Fixed(_value) => CoreAction::InitializeBytes(spot.slot, byte, Vec::new(types.alloc())),
+        Initial::Fixed(_value) => CoreAction::InitializeBytes(
+            spot.slot,
+            byte,
+            Vec::new(types.alloc()),
+        ),
     };
     Ok(CoreStatement {
         pos: spot.at,

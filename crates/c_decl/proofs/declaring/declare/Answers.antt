@@ -1,6 +1,6 @@
 -- Whether something is declared, the specifiers, and the declarators.
 use Rattle.std.proofs.Common.{◌∙◌, ap, sym}
-use Rattle.std.specs.Prelude.{List, Option}
+use Rattle.std.specs.Prelude.{Option}
 use Rattle.std.proofs.lemmas.Result.{err_from_is_err_and}
 use Rattle.c_types.specs.CType.{type_of}
 use Rattle.c_syntax.specs.declared.specifier.Storage.{Storage}

@@ -7,7 +7,6 @@ use Rattle.c_syntax.specs.ViewUnit.{init_declarator_of}
 use Rattle.c_scopes.specs.Env.{env_of}
 use Rattle.c_type_parts.proofs.Steps.{given_as, refused_as}
 use Rattle.c_expr.specs.Typing.{declared}
-use Rattle.c_decl.specs.Clauses.{head_of}
 use Rattle.c_decl.proofs.Declarators.{declarator_given, name_refused, type_refused}
 use Rattle.c_decl.proofs.Kept.{declared_in_kept}
 use Rattle.c_types.proofs.Kept.{grows_then}

@@ -1,5 +1,5 @@
 -- What the initializer stores, the type behind it, and the name once more.
-use Rattle.std.proofs.Common.{◌∙◌, ap, sym, false}
+use Rattle.std.proofs.Common.{ap, sym, false}
 use Rattle.std.proofs.lemmas.Result.{err_from_is_err_and}
 use Rattle.std.specs.Prelude.{Bool, Some, not}
 use Rattle.c_types.specs.CType.{type_of}
