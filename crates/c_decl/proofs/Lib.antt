@@ -6,3 +6,4 @@ pub mod Initialized
 pub mod DeclaredName
 pub mod Declarators
 pub mod Specified
+pub mod Examples
