@@ -1,0 +1,3 @@
+-- The literals of nodes that hold lists, and examples.
+pub mod Nodes
+pub mod Examples

@@ -1,0 +1,5 @@
+-- The core, and then its literals.
+use Rattle.c_statements.proofs.expressions.tested.Goals as goal
+
+pub returns : goal.returns
+returns c = c.with_literals.ensures _ _ _ _ c.tested_core.ensures
