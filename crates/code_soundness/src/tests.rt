@@ -1,4 +1,6 @@
 //! Each call that makes a list, with memory.
+ghost use Rattle.std.specs.Prelude.{◌≡◌, length, IfOk};
+
 use super::*;
 use acc_num::IntKind;
 use critical_table::Pos;
@@ -23,17 +25,20 @@ const SECOND: Stretch = Stretch {
     gives: Some(Form::Nothing),
 };
 
-/// Two functions, of seven instructions and of two. `exit` has the first called type, and not the second.
-fn two_functions(alloc: Global) -> Result<Code, AllocError> {
+/// Two functions, of seven instructions with this jump, and of two with a call through this type. `exit` has the first
+/// called type, and not the second.
+fn two_functions(alloc: Global, jump: Instr, called: u32) -> Result<Code, AllocError>
+    ensures { IfOk result (λ code. length code.instrs ≡ 9) }
+{
     let mut code = Code::new(alloc)?;
     code.instr(Instr::Number(IntKind::I32, 7), HERE)?;
     code.instr(Instr::Cases(1), HERE)?;
     code.instr(Instr::Pair(7, 4), HERE)?;
     code.instr(Instr::Default(5), HERE)?;
     code.instr(Instr::IfZero(6), HERE)?;
-    code.instr(Instr::Jump(6), HERE)?;
+    code.instr(jump, HERE)?;
     code.instr(Instr::Leave, HERE)?;
-    code.instr(Instr::Call(1, 0), HERE)?;
+    code.instr(Instr::Call(1, called), HERE)?;
     code.instr(Instr::Leave, HERE)?;
     code.function(b"f", 0, &[], Form::Nothing, 0)?;
     code.function(b"g", 7, &[], Form::Nothing, 0)?;
@@ -45,7 +50,7 @@ fn two_functions(alloc: Global) -> Result<Code, AllocError> {
 
 #[test]
 fn says_where_instructions_lead(rt: HostRuntime) -> Result<(), Fail> {
-    let code = two_functions(rt.alloc())?;
+    let code = two_functions(rt.alloc(), Instr::Jump(6), 0)?;
     let facts = facts_of(rt.alloc(), &code)?;
     let mut places = Vec::new(rt.alloc());
     for there in facts.places.iter() {
@@ -60,7 +65,7 @@ fn says_where_instructions_lead(rt: HostRuntime) -> Result<(), Fail> {
 
 #[test]
 fn says_where_functions_end(rt: HostRuntime) -> Result<(), Fail> {
-    let code = two_functions(rt.alloc())?;
+    let code = two_functions(rt.alloc(), Instr::Jump(6), 0)?;
     assert_eq!(rt; function_count(&code), 2);
     assert_eq!(rt; least_start(&code, 9), 0);
     assert_eq!(rt;
@@ -71,13 +76,17 @@ fn says_where_functions_end(rt: HostRuntime) -> Result<(), Fail> {
 }
 
 #[test]
-fn finds_the_first_unsound_instruction(rt: HostRuntime) -> Result<(), Fail> {
-    let mut code = two_functions(rt.alloc())?;
+fn finds_no_unsound_instruction(rt: HostRuntime) -> Result<(), Fail> {
+    let code = two_functions(rt.alloc(), Instr::Jump(6), 0)?;
     let facts = facts_of(rt.alloc(), &code)?;
     assert_eq!(rt; first_unsound(&code, &facts, FIRST), None);
     assert_eq!(rt; first_unsound(&code, &facts, SECOND), None);
-    code.patch(5, Instr::Jump(4));
-    code.patch(7, Instr::Call(1, 1));
+    Ok(())
+}
+
+#[test]
+fn finds_a_jump_back_and_a_call(rt: HostRuntime) -> Result<(), Fail> {
+    let code = two_functions(rt.alloc(), Instr::Jump(4), 1)?;
     let facts = facts_of(rt.alloc(), &code)?;
     assert_eq!(rt; first_unsound(&code, &facts, FIRST), Some(5));
     assert_eq!(rt; first_unsound(&code, &facts, SECOND), Some(7));
