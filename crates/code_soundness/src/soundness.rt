@@ -1,5 +1,5 @@
 //! What is asked of an instruction by itself.
-ghost use Rattle.std.specs.Prelude.{◌≡◌, ℕ, ◌+◌, ◌==◌, ◌<◌, ◌≤◌, List, length, slice_get, Some, IfOk};
+ghost use Rattle.std.specs.Prelude.{◌≡◌, ℕ, ◌+◌, ◌==◌, ◌<◌, ◌≤◌, nat_lt, List, length, slice_get, Some, IfOk};
 ghost use Rattle.std.specs.List.{list_all};
 ghost use Rattle.acc_num.specs.Numbers.{in_range};
 ghost use Rattle.code_soundness.specs.Facts.{AreFacts, stretch_of};
@@ -111,6 +111,13 @@ fn is_structure(gives: Option<Form>) -> bool
     }
 }
 
+/// Whether there is a text with this number.
+fn has_text(code: &Code, text: u32) -> bool
+    ensures { result ≡ nat_lt text (length code.now.texts) }
+{
+    code.text_at(text).is_some()
+}
+
 /// Whether a call has as many arguments as its type has forms, and all library functions of the type have it.
 fn call_fits(code: &Code, facts: &Facts, count: u32, called: u32) -> bool
     requires { AreFacts code.now facts.now }
@@ -144,7 +151,7 @@ fn is_plain(code: &Code, facts: &Facts, stretch: Stretch, at: usize) -> bool
         Instr::Number(kind, number) => is_in_range(kind, number),
         Instr::Result => is_structure(stretch.gives),
         Instr::Reach(_, align, _) => 0 < align,
-        Instr::Pool(text) => code.text_at(text).is_some(),
+        Instr::Pool(text) => has_text(code, text),
         Instr::Make(_, bytes) => 0 < bytes && bytes <= LARGEST_SIZE,
         Instr::Difference(bytes) => 0 < bytes,
         Instr::Cases(count) => is_complete(facts, at, count),
