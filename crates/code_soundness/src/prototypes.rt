@@ -122,13 +122,13 @@ fn argument_form(kind: ArgKind) -> Form
     }
 }
 
-pub fn is_same_kind(one: IntKind, other: IntKind) -> bool
+fn is_same_kind(one: IntKind, other: IntKind) -> bool
     ensures { result ≡ same_kind one other }
 {
     one == other
 }
 
-pub fn is_same_form(one: Form, other: Form) -> bool
+fn is_same_form(one: Form, other: Form) -> bool
     ensures { result ≡ same_form one other }
 {
     match (one, other) {
