@@ -1,0 +1,6 @@
+//! Whether code is valid, and the instruction that is blamed where it isn't.
+#![tactic(auto)]
+
+mod effects;
+mod kept;
+mod passing;
