@@ -35,7 +35,7 @@ number_stays : (stacks more : List Kinds) (o : Option ℕ) → ((number : ℕ) �
 number_stays stacks more None less = refl
 number_stays stacks more (Some number) less = ap (λ x. Some x) (get_or_append_left stacks more [] number (less number refl))
 
-kinds_stay : (from : ℕ) (stacks more : List Kinds) (numbers : List (Option ℕ)) (at : ℕ)
+pub kinds_stay : (from : ℕ) (stacks more : List Kinds) (numbers : List (Option ℕ)) (at : ℕ)
     → ((k number : ℕ) → get_or numbers k None ≡ Some number → number < length stacks)
     → kinds_at from (stacks ++ more) numbers at ≡ kinds_at from stacks numbers at
 kinds_stay from stacks more numbers at there =

@@ -2,3 +2,4 @@
 pub mod Effects
 pub mod Passed
 pub mod Keeping
+pub mod Leaving

@@ -2,5 +2,6 @@
 #![tactic(auto)]
 
 mod effects;
+mod firsts;
 mod kept;
 mod passing;
