@@ -1,3 +1,4 @@
 pub mod Leaving
 pub mod Arrivals
 pub mod Turns
+pub mod KindFaults

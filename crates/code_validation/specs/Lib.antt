@@ -3,3 +3,4 @@ pub mod Effects
 pub mod Passed
 pub mod Keeping
 pub mod Leaving
+pub mod KindFaults

@@ -4,4 +4,5 @@
 mod effects;
 mod firsts;
 mod kept;
+mod kind_faults;
 mod passing;

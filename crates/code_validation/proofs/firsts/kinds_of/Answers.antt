@@ -1,5 +1,5 @@
 -- What comes first stays, and what is left is known.
-use Rattle.std.proofs.Common.{◌≡◌, ◌∙◌, ℕ, sym, subst}
+use Rattle.std.proofs.Common.{sym, subst}
 use Rattle.code_validation.specs.Keeping.{IsOf, ComeFirst}
 use Rattle.code_validation.specs.Leaving.{AreLeft}
 use Rattle.code_validation.proofs.Leaving.{first_more}

@@ -1,5 +1,5 @@
 -- What is left is what the instruction leaves of what came to it.
-use Rattle.std.proofs.Common.{◌≡◌, ℕ, ◌-◌, get_or, Option, Some, None, refl, sym, ap, ◌∙◌, subst}
+use Rattle.std.proofs.Common.{◌≡◌, ◌-◌, get_or, Some, None, sym, ap, ◌∙◌}
 use Rattle.code_validation.proofs.Leaving.{left_of}
 use Rattle.code_validation.proofs.kept.Kept.left_at.Goals as goal
 

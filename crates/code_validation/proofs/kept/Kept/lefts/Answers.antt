@@ -1,5 +1,5 @@
 -- One instruction more is passed.
-use Rattle.std.proofs.Common.{◌≡◌, ◌∙◌, ℕ, length, get_or, Some, None, ap, sym, subst, arith}
+use Rattle.std.proofs.Common.{◌≡◌, ◌∙◌, length, get_or, Some, None, ap, sym, subst, arith}
 use Rattle.std.proofs.lemmas.List.{length_push}
 use Rattle.code_validation.specs.Leaving.{IsLeft}
 use Rattle.code_validation.proofs.Leaving.{more_yet, left_more, left_next}
@@ -18,8 +18,12 @@ loop-at-preserved c =
       numbers = c.in_ok-number.ensures.numbers ∙ c.loop-at.invariant.numbers;
       more = more_yet c.args.self.now.stacks c.loop-at.self.stacks c.left_at.new.self.stacks c.loop-at.invariant.more
           c.in_ok-number.ensures.more;
-      long = omega (arith, c.loop-at.invariant.long, ap length c.in_ok-push.ensures.items,
-      length_push c.loop-at.left.items c.in_ok-number.number);
+      long = omega (
+        arith,
+        c.loop-at.invariant.long,
+        ap length c.in_ok-push.ensures.items,
+        length_push c.loop-at.left.items c.in_ok-number.number,
+      );
       are = left_next c.args.code.now c.args.self.now.stretch c.left_at.new.self.stacks c.args.self.now.numbers.items
           c.args.self.now.stretch.from c.loop-at.at c.loop-at.left.items c.push.new.self.items c.in_ok-number.number
           c.in_ok-push.ensures.items c.loop-at.invariant.long here
