@@ -2,3 +2,4 @@ pub mod Leaving
 pub mod Arrivals
 pub mod Turns
 pub mod KindFaults
+pub mod FunctionFaults

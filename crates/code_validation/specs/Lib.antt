@@ -4,3 +4,4 @@ pub mod Passed
 pub mod Keeping
 pub mod Leaving
 pub mod KindFaults
+pub mod FunctionFaults

@@ -3,6 +3,10 @@
 
 mod effects;
 mod firsts;
+mod function_faults;
 mod kept;
 mod kind_faults;
 mod passing;
+
+pub use firsts::{Firsts, kinds_of};
+pub use function_faults::{first_fault_by_kinds, function_fault};
