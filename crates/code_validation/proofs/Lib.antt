@@ -3,3 +3,4 @@ pub mod Arrivals
 pub mod Turns
 pub mod KindFaults
 pub mod FunctionFaults
+pub mod OwnTypes

@@ -5,3 +5,4 @@ pub mod Keeping
 pub mod Leaving
 pub mod KindFaults
 pub mod FunctionFaults
+pub mod Misfits

@@ -6,7 +6,9 @@ mod firsts;
 mod function_faults;
 mod kept;
 mod kind_faults;
+mod misfits;
 mod passing;
 
 pub use firsts::{Firsts, kinds_of};
 pub use function_faults::{first_fault_by_kinds, function_fault};
+pub use misfits::first_misfit;
