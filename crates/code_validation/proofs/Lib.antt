@@ -4,3 +4,4 @@ pub mod Turns
 pub mod KindFaults
 pub mod FunctionFaults
 pub mod OwnTypes
+pub mod FailsFirst

@@ -3,7 +3,7 @@ ghost use Rattle.std.specs.Prelude.{◌≡◌, ◌<◌, ◌≤◌, length, get_o
 ghost use Rattle.code_soundness.specs.Ends.{AreEnds};
 ghost use Rattle.code_soundness.specs.Facts.{AreFacts};
 ghost use Rattle.code_soundness.specs.Least.{IsLeast};
-ghost use Rattle.code_validation.specs.FunctionFaults.{CannotBegin, FailsIn, FailsByKinds};
+ghost use Rattle.code_validation.specs.FunctionFaults.{CannotBegin, FailsIn, FailsByKinds, FindsByKinds};
 ghost use Rattle.code_validation.specs.Keeping.{IsOf};
 ghost use Rattle.vm_code.specs.declared.parts.CodeFunction.{CodeFunction};
 
@@ -90,7 +90,8 @@ pub fn first_fault_by_kinds(
 ) -> Result<Option<usize>, AllocError>
     requires facts { AreFacts code.now facts.now }
     requires ends { AreEnds code.now ends.now }
-    ensures { IfOk result (IsLeast (FailsByKinds code.now)) }
+    ensures least { IfOk result (IsLeast (FailsByKinds code.now)) }
+    ensures finds { IfOk result (FindsByKinds code.now) }
 {
     let to = least_start(code, ends.len());
     let mut least = first_unsound(

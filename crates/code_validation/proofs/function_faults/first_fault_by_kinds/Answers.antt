@@ -4,10 +4,11 @@ use Rattle.std.proofs.lemmas.Bool.{cases_lt}
 use Rattle.std.specs.List.{slice_get}
 use Rattle.vm_code.specs.Valid.{first_stretch}
 use Rattle.code_soundness.specs.Least.{IsLeast, IsUnsoundIn}
-use Rattle.code_validation.specs.FunctionFaults.{FailsIn, FailsByKinds, BeforeAll, OfFunction}
+use Rattle.code_validation.specs.FunctionFaults.{FailsIn, FailsByKinds, BeforeFunctions, InFunction}
 use Rattle.code_validation.specs.KindFaults.{Finds}
 use Rattle.code_validation.proofs.KindFaults.{least_of}
 use Rattle.code_validation.proofs.FunctionFaults.{found_least, first_within, contained, numbered_in, one_there}
+use Rattle.code_validation.proofs.FailsFirst.{finds_by_kinds}
 use Rattle.code_validation.proofs.function_faults.first_fault_by_kinds.Goals as goal
 
 pub first_unsound-least-requires-clause-within : goal.first_unsound-least-requires-clause-within
@@ -22,7 +23,7 @@ loop-index-init c =
     (subst (λ n. IsLeast (IsUnsoundIn c.args.code.now (record { from = 0; to = n; gives = None }))
     c.first_unsound-least.result) c.least_start-to.ensures c.first_unsound-least.ensures) in
     record {
-      is = λ n same. BeforeAll (first.is n same);
+      is = λ n same. BeforeFunctions (first.is n same);
       before = λ n unsound. first.all n unsound;
       all = λ k f n less is fails. let no : ⊥ = omega (arith, less) in absurd no;
     }
@@ -34,7 +35,7 @@ loop-index-preserved c =
     record {
       is = λ n same. elim (c.earlier-least.ensures.is n same) [
         | inl old ↦ c.loop-index.invariant.is n old
-        | inr new ↦ OfFunction there.0 (contained c.args.code.now.functions c.loop-index.index there.0 there.1)
+        | inr new ↦ InFunction there.0 (contained c.args.code.now.functions c.loop-index.index there.0 there.1)
             ((found_least (FailsIn c.args.code.now there.0) c.in_ok-fault.fault
             (c.in_ok-fault.ensures there.0 (c.stretch_at-stretch.ensures.of there.0 there.1))).is n new)
       ];
@@ -49,12 +50,23 @@ loop-index-preserved c =
       ];
     }
 
-pub returns : goal.returns
-returns c = least_of (FailsByKinds c.args.code.now) c.loop-index.least (record {
+pub returns-clause-least : goal.returns-clause-least
+returns-clause-least c = least_of (FailsByKinds c.args.code.now) c.loop-index.least (record {
   is = λ n same. c.loop-index.invariant.is n same;
   all = λ n fails. elim fails [
-    | BeforeAll unsound ↦ c.loop-index.invariant.before n unsound
-    | OfFunction f found fault ↦ c.loop-index.invariant.all found.0 f n
+    | BeforeFunctions unsound ↦ c.loop-index.invariant.before n unsound
+    | InFunction f found fault ↦ c.loop-index.invariant.all found.0 f n
+        (omega (arith, found.1, c.loop-index-test.false, c.function_count-index-end.ensures))
+        (numbered_in c.args.code.now.functions f found.0 found.1 found.2) fault
+  ];
+})
+
+pub returns-clause-finds : goal.returns-clause-finds
+returns-clause-finds c = finds_by_kinds c.args.code.now c.loop-index.least (record {
+  is = λ n same. c.loop-index.invariant.is n same;
+  all = λ n fails. elim fails [
+    | BeforeFunctions unsound ↦ c.loop-index.invariant.before n unsound
+    | InFunction f found fault ↦ c.loop-index.invariant.all found.0 f n
         (omega (arith, found.1, c.loop-index-test.false, c.function_count-index-end.ensures))
         (numbered_in c.args.code.now.functions f found.0 found.1 found.2) fault
   ];
