@@ -12,3 +12,6 @@ mod passing;
 pub use firsts::{Firsts, kinds_of};
 pub use function_faults::{first_fault_by_kinds, function_fault};
 pub use misfits::first_misfit;
+
+#[cfg(test)]
+mod tests;
