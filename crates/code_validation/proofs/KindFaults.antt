@@ -159,15 +159,6 @@ module _ (code : Contents) (f : CodeFunction) (firsts : Firsts) (are : AreFirsts
     -- ---- kinds that differ where it leads
 
     module _ (to : ℕ) where
-      pub not_within : is_place code (facts.stretch_of firsts.kept.stretch) to ≡ false → Parts code f at to → ⊥
-      not_within other parts =
-          let same : is_place code (facts.stretch_of firsts.kept.stretch) to ≡ true =
-          ap (λ s. is_place code s to) of ∙ parts.within in
-          true_false (sym same ∙ other)
-        where
-          true_false : true ≡ false → ⊥
-          true_false same = cc
-
       pub nothing_left : get_or left (at - from) None ≡ None → Parts code f at to → ⊥
       nothing_left none parts = some_none parts.left (sym parts.leaves
           ∙ sym (left_kinds parts.kinds parts.instr parts.known parts.stands) ∙ ap (option_map (stack_at stacks)) none)

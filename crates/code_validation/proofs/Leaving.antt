@@ -1,7 +1,7 @@
 -- What a change of the stacks leaves.
 use Rattle.std.proofs.Common.{◌≡◌, inl, inr, ℕ, ◌+◌, ◌-◌, ◌<◌, ◌≤◌, List, [], ◌∷◌, ◌++◌, length, get_or, Option, Some, None, Ok, IfSome}
 use Rattle.std.proofs.Common.{refl, sym, ap, ◌∙◌, subst, arith, length-append}
-use Rattle.std.proofs.lemmas.List.{append-nil, append_assoc, get_or_append_left, get_or_push}
+use Rattle.std.proofs.lemmas.List.{append_assoc, get_or_append_left, get_or_push}
 use Rattle.std.proofs.lemmas.Bool.{cases_lt}
 use Rattle.std.proofs.lemmas.Option.{some_pair_parts}
 use Rattle.std.specs.Option.{option_map}
@@ -25,9 +25,6 @@ one_stands code at one other first then =
 
 pub some_same : (one other : ℕ) → Some one ≡ Some other → one ≡ other
 some_same one other same = cc
-
-pub same_stacks : (stacks : List Kinds) → MoreStacks stacks stacks
-same_stacks stacks = ([], sym (append-nil stacks))
 
 pub more_yet : (before middle after : List Kinds) → MoreStacks before middle → MoreStacks middle after
     → MoreStacks before after
