@@ -1,0 +1,5 @@
+mod EndPlaces
+mod Starts
+mod Cases
+mod Standing
+mod Taken
