@@ -15,8 +15,8 @@ use Rattle.c_type_rules.specs.Qualified.{quals_of_words}
 use Rattle.c_type_rules.specs.declared.context.Setting.TheVariants as setting
 use Rattle.c_type_parts.specs.Answers.{Answer, Gives, Refuses, and_then, settle}
 use Rattle.c_type_parts.specs.declared.derivations.Around.{Around}
-use Rattle.c_type_parts.specs.Declaring.{Derived, ToPointer, array_derived, derived_type, fresh_rule, is_alone, is_first}
-use Rattle.c_type_parts.specs.Declaring.{is_none, no_ellipsis, own_around, parameter_object, plain_derived}
+use Rattle.c_type_parts.specs.Declaring.{Derived, ToPointer, array_derived, derived_type, fresh_rule, is_alone}
+use Rattle.c_type_parts.specs.Declaring.{is_first, is_none, no_ellipsis, own_around, parameter_object, plain_derived}
 use Rattle.c_type_parts.specs.Declaring as parts
 use Rattle.c_type_parts.specs.Environments.{scope_entered, scope_left}
 use Rattle.c_type_parts.specs.Outlines.{bare_context}

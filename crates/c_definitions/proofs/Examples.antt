@@ -133,8 +133,8 @@ unfolding typed named each_specified one_specified members_typed member_typed ea
 incomplete = refl
 
 -- int f(struct s *x) {}: the tag is in the scope that the body has
-tag_of_a_parameter : has_tag (codes "s") (declarator_defined (f_of (one (Param (only struct_at_7) (PointerTo [] (x_at 17)))))
-    int empty) ≡ true
+tag_of_a_parameter : has_tag (codes "s")
+    (declarator_defined (f_of (one (Param (only struct_at_7) (PointerTo [] (x_at 17))))) int empty) ≡ true
 unfolding typed named each_specified one_specified members_typed member_typed each_member enumerated
     enumerator_value walk.derived array_length parameters_typed parameter_typed and_then settle of_specifiers
     of_derivations derived_type type_on as_value as_used derived parameter_defined parameters_defined
@@ -144,7 +144,10 @@ tag_of_a_parameter = refl
 adjusted : declarator_defined (f_of (one (Param (only word_at_7) (ArrayOf (x_at 11) (With (Const (at 13)
     (Number (record { value = 3; decimal = true; unsigned = false; longs = 0 }))))))))
     int empty
-    ≡ Gives (record { type = function_type int (Cons (pointer_to int) Nil); parameters = x_alone (pointer_to int) }) empty
+    ≡ Gives (record {
+      type = function_type int (Cons (pointer_to int) Nil);
+      parameters = x_alone (pointer_to int);
+    }) empty
 unfolding typed named each_specified one_specified members_typed member_typed each_member enumerated
     enumerator_value walk.derived array_length parameters_typed parameter_typed and_then settle of_specifiers
     of_derivations derived_type type_on as_value as_used derived parameter_defined parameters_defined

@@ -1,5 +1,5 @@
 -- The derivations of a definition's declarator one by one, and the scope of the parameters beside them.
-use Rattle.std.proofs.Common.{◌≡◌, ◌∙◌, ◌<◌, ap, refl, sym, subst, ℕ, Bool, true, false, List, [], ◌∷◌, ◌++◌, All, length}
+use Rattle.std.proofs.Common.{◌≡◌, ◌∙◌, ◌<◌, ap, refl, sym, subst, ℕ, Bool, true, false, List, [], ◌∷◌, ◌++◌, All}
 use Rattle.std.specs.Global.{Global}
 use Rattle.std.specs.Prelude.{Box, Option, Some, None, IfSome}
 use Rattle.critical_table.specs.declared.pos.Pos.{Pos}
@@ -131,7 +131,8 @@ module _ (around : Around) (inner : Declarator) (env : Env) where
   function_is parameters variadic = refl
 
   module _ (old mid : Types) (scopes : List Scope) (before : code.Derivations)
-      (given : Given (derived around inner env) (derivations_of mid before) (λ t. DerivationsIn t before) old scopes mid)
+      (given : Given (derived around inner env) (derivations_of mid before) (λ t. DerivationsIn t before) old scopes
+      mid)
       (more : code.Derivations) (kept : more.parameters ≡ before.parameters) where
     -- a pointer with these qualifiers
     pub pointer_given : (words : List Qualifier) (quals : Quals) → quals ≡ quals_of_words words
@@ -164,8 +165,8 @@ module _ (around : Around) (inner : Declarator) (env : Env) where
         (length_next length (derivations_of mid before)) counted.is
         ∙ ap (λ (at : Option Pos). Gives (behind (derivations_of mid before)
         (record { derivation = ToArray n; length_at = at; parameters = no_names })) (env_of after new)) (sym same))
-        counted.here (grows_then old mid new given.grown counted.grown) counted.grown given.is_in counted.is_in behind_it
-        kept
+        counted.here (grows_then old mid new given.grown counted.grown) counted.grown given.is_in counted.is_in
+        behind_it kept
 
   -- a length that is refused
   pub length_refused : (old mid : Types) (scopes : List Scope) (before : code.Derivations)

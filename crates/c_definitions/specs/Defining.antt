@@ -18,8 +18,8 @@ use Rattle.c_expr.specs.Derivations.{left_behind}
 use Rattle.c_expr.specs.Typing.{array_length, parameters_typed}
 use Rattle.c_definitions.specs.Parameters.{own_parameters}
 
--- The derivations of a declarator from the name outwards, and what the scope of the parameters of the first has, which is
--- the function that is defined.
+-- The derivations of a declarator from the name outwards, and what the scope of the parameters of the first has, which
+-- is the function that is defined.
 pub record Derivations : Type 0 where
   pub all : List Derived
   pub parameters : Names Named

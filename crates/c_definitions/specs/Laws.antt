@@ -1,5 +1,5 @@
--- The law of the crate: where a definition is taken, its function has the type that the same declarator gives a function
--- that is only declared.
+-- The law of the crate: where a definition is taken, its function has the type that the same declarator gives a
+-- function that is only declared.
 use Rattle.std.specs.Prelude.{◌≡◌, ℕ, Bool}
 use Rattle.critical_table.specs.declared.pos.Pos.{Pos}
 use Rattle.c_types.specs.CType.{CType, CTypes}

@@ -1,4 +1,5 @@
--- The walk over the parameters of a function definition: each comes into their scope with its adjusted type (6.9.1p5, p7).
+-- The walk over the parameters of a function definition: each comes into their scope with its adjusted type (6.9.1p5,
+-- p7).
 use Rattle.std.specs.Prelude.{ℕ, ◌+◌, Bool, false, cond, is_some, List, Option, Some, None}
 use Rattle.critical_table.specs.declared.pos.Pos.{Pos}
 use Rattle.c_types.specs.CType.{CType, CTypes, Nil}

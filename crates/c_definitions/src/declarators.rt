@@ -129,8 +129,8 @@ fn derived(
 // No derivations, and a scope without names.
 fn no_derivations(scopes: &mut Scopes, types: &TypeTable) -> Result<Derivations, TypeFault>
     requires { ScopesIn types.now scopes.old }
-    ensures { AnswersDerivations (Gives spec.no_derivations (env_of scopes.old types.now)) types.now scopes.new types.now
-        result }
+    ensures { AnswersDerivations (Gives spec.no_derivations (env_of scopes.old types.now)) types.now scopes.new
+        types.now result }
 {
     let _types = types;
     let all = Vec::new(scopes.alloc());
@@ -165,9 +165,9 @@ fn function_behind(
 ) -> Result<Derivations, TypeFault>
     requires here { ScopesIn types.old scopes.old }
     requires before { DerivationsIn types.old before }
-    ensures { AnswersDerivations (spec.function_behind (is_first (derivations_of types.old before).all) function.entry.around
-        (parameter_list (map parameter_of function.entry.list.now)) function.entry.variadic (derivations_of types.old before)
-        (env_of scopes.old types.old)) types.old scopes.new types.new result }
+    ensures { AnswersDerivations (spec.function_behind (is_first (derivations_of types.old before).all)
+        function.entry.around (parameter_list (map parameter_of function.entry.list.now)) function.entry.variadic
+        (derivations_of types.old before) (env_of scopes.old types.old)) types.old scopes.new types.new result }
 {
     if before.all.is_empty() {
         own_function(scopes, types, function, before)
@@ -197,8 +197,8 @@ fn own_function(
     requires here { ScopesIn types.old scopes.old }
     requires before { DerivationsIn types.old before }
     ensures { AnswersDerivations (spec.function_behind true function.entry.around
-        (parameter_list (map parameter_of function.entry.list.now)) function.entry.variadic (derivations_of types.old before)
-        (env_of scopes.old types.old)) types.old scopes.new types.new result }
+        (parameter_list (map parameter_of function.entry.list.now)) function.entry.variadic
+        (derivations_of types.old before) (env_of scopes.old types.old)) types.old scopes.new types.new result }
 {
     let own = parameters(scopes, types, function_site(function), function.list)?;
     let list = ParameterList {
@@ -223,8 +223,8 @@ fn outer_function(
     requires here { ScopesIn types.old scopes.old }
     requires before { DerivationsIn types.old before }
     ensures { AnswersDerivations (spec.function_behind false function.entry.around
-        (parameter_list (map parameter_of function.entry.list.now)) function.entry.variadic (derivations_of types.old before)
-        (env_of scopes.old types.old)) types.old scopes.new types.new result }
+        (parameter_list (map parameter_of function.entry.list.now)) function.entry.variadic
+        (derivations_of types.old before) (env_of scopes.old types.old)) types.old scopes.new types.new result }
 {
     let list = ParameterList {
         types: parameters_typed(scopes, types, function_site(function), function.list)?,

@@ -1,5 +1,5 @@
-//! The declarator of a function definition: the type that it makes, and the scope of its parameters, in which the body is
-//! walked (6.9.1).
+//! The declarator of a function definition: the type that it makes, and the scope of its parameters, in which the body
+//! is walked (6.9.1).
 #![tactic(auto)]
 
 pub mod declarators;
