@@ -11,12 +11,11 @@ use Rattle.c_scopes.specs.Named.{Named}
 use Rattle.c_scopes.specs.Ruled.{Ruled, Fits, Breaks}
 use Rattle.c_scopes.specs.Scopes.{Names}
 use Rattle.c_type_rules.specs.Functions as declared
-use Rattle.c_type_rules.specs.Qualified.{quals_of_words}
 use Rattle.c_type_rules.specs.declared.context.Setting.TheVariants as setting
 use Rattle.c_type_parts.specs.Answers.{Answer, Gives, Refuses, and_then, settle}
 use Rattle.c_type_parts.specs.declared.derivations.Around.{Around}
-use Rattle.c_type_parts.specs.Declaring.{Derived, ToPointer, array_derived, derived_type, fresh_rule, is_alone}
-use Rattle.c_type_parts.specs.Declaring.{is_first, is_none, no_ellipsis, own_around, parameter_object, plain_derived}
+use Rattle.c_type_parts.specs.Declaring.{Derived, array_derived, derived_type, fresh_rule, is_alone}
+use Rattle.c_type_parts.specs.Declaring.{is_first, is_none, no_ellipsis, own_around, parameter_object}
 use Rattle.c_type_parts.specs.Declaring as parts
 use Rattle.c_type_parts.specs.Environments.{scope_entered, scope_left}
 use Rattle.c_type_parts.specs.Outlines.{bare_context}
@@ -27,7 +26,7 @@ use Rattle.c_expr.specs.Typing.{array_length, parameter_typed, parameters_typed,
 use Rattle.c_expr.specs.Typing as walk
 use Rattle.c_expr.proofs.Derivations.{array_next, array_step, function_next, function_step, length_next, of_nameless}
 use Rattle.c_expr.proofs.Derivations.{pointer_next, pointer_step, types_next}
-use Rattle.c_statement_rules.specs.Definitions.{name_rule, parameter_rule}
+use Rattle.c_statement_rules.specs.Definitions.{name_rule}
 use Rattle.c_definitions.specs.Defining.{Defined, Derivations, behind, declarator_defined, derived, function_behind}
 use Rattle.c_definitions.specs.Defining.{function_last, outside}
 use Rattle.c_definitions.specs.Laws.{ParametersAsDeclared, TypeAsDeclared}

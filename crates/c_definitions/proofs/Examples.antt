@@ -1,6 +1,6 @@
 -- Definitions, each with what the walk makes of its declarator, and which of two constraints is told.
 use Rattle.std.proofs.Common.{◌≡◌, ℕ, List, [], ◌∷◌, true, false, refl}
-use Rattle.std.specs.Prelude.{Bool, Option, Some, None, codes, is_some}
+use Rattle.std.specs.Prelude.{Bool, codes, is_some}
 use Rattle.critical_table.specs.declared.pos.Pos.{Pos}
 use Rattle.c_types.specs.declared.basic.Basic.TheVariants as b
 use Rattle.c_types.specs.CType.{CType, CTypes, Nil, Cons, Plain, Function, no_quals}
@@ -8,8 +8,7 @@ use Rattle.c_syntax.specs.declared.expression.Constant.TheVariants.{Number}
 use Rattle.c_syntax.specs.declared.specifier.BasicWord.TheVariants as word
 use Rattle.c_syntax.specs.declared.specifier.CompoundWord.TheVariants.{Struct}
 use Rattle.c_syntax.specs.declared.specifier.Storage.TheVariants.{Register}
-use Rattle.c_syntax.specs.declared.specifier.Tag.{Tag}
-use Rattle.c_syntax.specs.Tree.{Expr, Const, With, Specifier, Specifiers, NoSpecifier, MoreSpecifiers, BasicType}
+use Rattle.c_syntax.specs.Tree.{Const, With, Specifier, Specifiers, NoSpecifier, MoreSpecifiers, BasicType}
 use Rattle.c_syntax.specs.Tree.{CompoundTag, StorageClass, Declarator, Omitted, Name, DParen, PointerTo, ArrayOf}
 use Rattle.c_syntax.specs.Tree.{FunctionOf, Parameter, Param, Parameters, NoParameter, MoreParameters}
 use Rattle.c_scopes.specs.Env.{Env}

@@ -1,5 +1,5 @@
 -- The scope of a definition's parameters is closed and handed out.
-use Rattle.std.proofs.Common.{◌≡◌, ◌∙◌, ap, refl, sym, subst, ℕ, Bool, List, [], ◌∷◌, All, length}
+use Rattle.std.proofs.Common.{◌≡◌, ◌∙◌, ap, subst, Bool, List, ◌∷◌, All, length}
 use Rattle.critical_table.specs.declared.pos.Pos.{Pos}
 use Rattle.c_types.specs.declared.shape.TypeId.{TypeId}
 use Rattle.c_types.specs.CType.{CTypes, all_types, types_at}
@@ -10,7 +10,7 @@ use Rattle.c_core.specs.Ids.{IdIn}
 use Rattle.c_syntax.specs.Tree.{Parameters}
 use Rattle.c_scopes.specs.Env.{Env, ScopesIn, env_of, names_of}
 use Rattle.c_scopes.specs.Scopes.{Scope}
-use Rattle.c_type_parts.specs.Answers.{Answer, Gives, and_then}
+use Rattle.c_type_parts.specs.Answers.{Answer, Gives}
 use Rattle.c_type_parts.specs.Clauses.{Given, Refused}
 use Rattle.c_type_parts.specs.Environments.{innermost_of, scope_left}
 use Rattle.c_type_parts.proofs.Steps.{refused_then, then_given}

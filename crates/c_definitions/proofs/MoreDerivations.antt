@@ -1,7 +1,6 @@
 -- The derivations of a definition's declarator one by one, and the scope of the parameters beside them.
 use Rattle.std.proofs.Common.{◌≡◌, ◌∙◌, ◌<◌, ap, refl, sym, subst, ℕ, Bool, true, false, List, [], ◌∷◌, ◌++◌, All}
-use Rattle.std.specs.Global.{Global}
-use Rattle.std.specs.Prelude.{Box, Option, Some, None, IfSome}
+use Rattle.std.specs.Prelude.{Option, None, IfSome}
 use Rattle.critical_table.specs.declared.pos.Pos.{Pos}
 use Rattle.c_types.specs.declared.shape.Quals.{Quals}
 use Rattle.c_types.specs.declared.shape.TypeId.{TypeId}

@@ -1,6 +1,6 @@
 //! The parameters of a function definition, in a scope that is handed out (6.9.1p5, 6.2.1p4).
 
-ghost use Rattle.std.specs.Prelude.{map, option_map};
+ghost use Rattle.std.specs.Prelude.{map};
 ghost use Rattle.c_types.specs.CType.{type_of};
 ghost use Rattle.c_core.specs.Ids.{IdIn};
 ghost use Rattle.c_scopes.specs.Env.{ScopesIn, env_of};
